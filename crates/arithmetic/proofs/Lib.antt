@@ -1,0 +1,7 @@
+pub mod Searches
+pub mod Congruence
+pub mod PrimeLaws
+pub mod InverseLaws
+pub mod PowerLaws
+pub mod FieldLaws
+mod Sizes

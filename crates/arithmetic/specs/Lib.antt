@@ -1,0 +1,4 @@
+pub mod Search
+pub mod Primes
+pub mod Field
+pub mod Entries

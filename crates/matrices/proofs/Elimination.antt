@@ -1,0 +1,316 @@
+-- The law of elimination. The rows of a table that was eliminated by some of its rows are the rows modulo the span of those: every product with a
+-- list that is orthogonal to them stays, and every product of the new rows is one of the old rows with such a list. So nothing is ever solved for
+-- coefficients.
+use mathlib.Core.Path.{_≡_, refl, sym, ap, ap₂, _∙_, subst}
+use mathlib.Core.Bool.{Bool, true, false, cond}
+use mathlib.Core.Logic.{_↔_, ⊎-elim}
+use mathlib.Core.List.{List, [], _∷_, _++_, map, append-nil}
+use Prim.Native.Nat.{ℕ, zero, suc, _+_, _-_, _*_, _%_, _≤_, _<_}
+use native.Mathlib.Nat.{mod-eq-of-lt, zero-mod}
+use native.Mathlib.Decide.{decLt}
+use native.Mathlib.Omega.{arith}
+use lib.Dec.{T, ltb}
+use lib.ListN.{length, take, drop}
+use borrow.Author.Tests.{lt-ltb, le-ltb}
+use Rattle.arithmetic.specs.Primes.{Prime, allBelow}
+use Rattle.arithmetic.specs.Field.{inverseOf}
+use Rattle.arithmetic.proofs.Searches.{T→true, not-T→false}
+use Rattle.arithmetic.proofs.Congruence.{Cong, to-mod, of-eq, of-rem, of-mod, c-refl, c-sym, c-trans, c-add, c-mul-left, c-mul-right, cong-zero, zero-cong, cong-one, zero-not-one}
+use Rattle.arithmetic.proofs.InverseLaws.{inverse-one}
+use Rattle.matrices.specs.Linear.{at, All, Vector, dotN, dot, add, scale, zeros, combN, comb, reduce, InSpan, Separated}
+use Rattle.matrices.specs.Rank.{inSpan, rankOver, rankOf}
+use Rattle.matrices.specs.Tables.{rowOf, rowsOf, pivotOf, cleared, pivotRow, hasPivot, clearedBy, eliminatedFrom, eliminated, pivotsFrom}
+use Rattle.matrices.proofs.Vectors.{all-append, all-left, all-right, all-snoc, all-map, dot-right}
+use Rattle.matrices.proofs.Spans.{span-dot, in-span-iff}
+use Rattle.matrices.proofs.Duality.{orthogonal-cong, span-unless}
+use Rattle.matrices.proofs.Steps.{row-fits, rows-fit, rest-size, length-scaled, length-cleared, length-eliminated, pivot-is, no-pivot, some-pivot}
+use Rattle.matrices.proofs.Rows.{pivot-nonzero, pivot-none, dot-scaled-row, dot-cleared, vector-cleared, vector-row, dot-pick, row-before, row-after, row-rest, row-eachRow, rows-from}
+
+-- a table of at most 48 rows and columns whose rows are symbols
+pub record Table (q rows cols : ℕ) (T : List ℕ) : Type 0 where
+  pub few-rows : rows ≤ 48
+  pub few-cols : cols ≤ 48
+  pub size : rows * cols ≡ length T
+  pub valid : (j : ℕ) → j < rows → Vector q cols (rowOf cols T j)
+
+-- N has the product 0 with each of the rows
+abbrev pub Orthogonal : ℕ → List (List ℕ) → List ℕ → Type 0
+Orthogonal q S N = All (λ s. Cong q (dotN s N) 0) S
+
+-- orthogonal to S, and with the products that the rows of U from number `low` on have with N
+pub record Pulled (q rows cols low : ℕ) (row : ℕ → List ℕ) (S : List (List ℕ)) (U N : List ℕ) : Type 0 where
+  pub N′ : List ℕ
+  pub none : Orthogonal q S N′
+  pub same : (j : ℕ) → low ≤ j → j < rows → Cong q (dotN (row j) N′) (dotN (rowOf cols U j) N)
+
+-- from number `low` on the rows of U are the rows `row` modulo the span of S
+pub record Reduced (q rows cols low : ℕ) (row : ℕ → List ℕ) (S : List (List ℕ)) (U : List ℕ) : Type 0 where
+  pub down : (N : List ℕ) → Orthogonal q S N → (j : ℕ) → low ≤ j → j < rows → Cong q (dotN (rowOf cols U j) N) (dotN (row j) N)
+  pub up : (N : List ℕ) → Pulled q rows cols low row S U N
+
+pub reduced-none : (q rows cols : ℕ) (T : List ℕ) → Reduced q rows cols 0 (rowOf cols T) [] T
+reduced-none q rows cols T =
+    record {
+      down = λ N h j l k. c-refl;
+      up = λ N. record { N′ = N; none = tt; same = λ j l k. c-refl };
+    }
+
+-- ---- one row more
+
+-- a row u with u[p] c = 1: its product with N less u[p] times that of c u is 0
+kill-number : (q m u c d s : ℕ) → q ≡ m + 1 → Cong q (u * c) 1 → Cong q s (c * d) → Cong q (d + m * s * u) 0
+kill-number q m u c d s em one hs =
+    c-trans (c-add (c-refl {a = d}) (c-mul-right u (c-mul-left m hs)))
+    (c-trans
+    (of-eq (omega arith))
+    (c-trans
+    (c-add (c-refl {a = d}) (c-mul-left (m * d) one))
+    (record { up = 0; dn = d; eq = omega (arith, ap (λ (z : ℕ). z * d) em) })))
+
+module _ (q rows cols low : ℕ) (row : ℕ → List ℕ) (S : List (List ℕ)) (U : List ℕ) (i : ℕ) (low-i : low ≤ i) (i-rows : i < rows) (R : Reduced q rows cols low row S U) where
+  -- row i of U is 0: row i was in the span already
+  reduced-same : (low′ : ℕ) → low ≤ low′ → ((N : List ℕ) → dotN (rowOf cols U i) N ≡ 0) → Reduced q rows cols low′ row (S ++ (row i ∷ [])) U
+  reduced-same low′ h z =
+      record {
+        down = λ N o j l k. R .down N (all-left (λ s. Cong q (dotN s N) 0) S (row i ∷ []) o) j (omega arith) k;
+        up = λ N.
+            let w = R .up N in
+            record {
+              N′ = w .N′;
+              none = all-snoc (λ s. Cong q (dotN s (w .N′)) 0) S (row i) (w .none) (c-trans (w .same i low-i i-rows) (of-eq (z N)));
+              same = λ j l k. w .same j (omega arith) k;
+            };
+      }
+
+  -- the rows of U′ are those of U, cleared in column p by s, a multiple of row i of U that has 1 there
+  module _ (em : 1 ≤ q) (p c : ℕ) (s U′ : List ℕ) (one : Cong q (at (rowOf cols U i) p * c) 1)
+      (hs : (N : List ℕ) → Cong q (dotN s N) (c * dotN (rowOf cols U i) N)) (low′ : ℕ) (h : low ≤ low′)
+      (hv : (j : ℕ) → low′ ≤ j → j < rows → (N : List ℕ) → Cong q (dotN (rowOf cols U′ j) N) (dotN (rowOf cols U j) N + (q - 1) * at (rowOf cols U j) p * dotN s N)) where
+    -- the list that has with v what v less v[p] s has with N
+    moved : List ℕ → List ℕ
+    moved N = add N (scale ((q - 1) * dotN s N) (zeros p ++ (1 ∷ [])))
+
+    dot-moved : (v N : List ℕ) → dotN v (moved N) ≡ dotN v N + (q - 1) * dotN s N * at v p
+    unfolding moved
+    dot-moved v N =
+        dot-right v N (zeros p ++ (1 ∷ [])) ((q - 1) * dotN s N)
+        ∙ ap (λ (z : ℕ). dotN v N + (q - 1) * dotN s N * z) (dot-pick p v)
+
+    reduced-step : Reduced q rows cols low′ row (S ++ (row i ∷ [])) U′
+    reduced-step =
+        record {
+          down = λ N o j l k.
+              let oS : Orthogonal q S N = all-left (λ s. Cong q (dotN s N) 0) S (row i ∷ []) o in
+              let z : Cong q (dotN (rowOf cols U i) N) 0
+              = c-trans (R .down N oS i low-i i-rows) (all-right (λ s. Cong q (dotN s N) 0) S (row i ∷ []) o .0) in
+              c-trans (hv j l k N)
+              (c-trans
+              (c-add (R .down N oS j (omega arith) k) (c-mul-left ((q - 1) * at (rowOf cols U j) p) (c-trans (hs N) (c-mul-left c z))))
+              (of-eq (omega arith)));
+          up = λ N.
+              let w = R .up (moved N) in
+              record {
+                N′ = w .N′;
+                none =
+                    all-snoc (λ s. Cong q (dotN s (w .N′)) 0) S (row i) (w .none)
+                    (c-trans (w .same i low-i i-rows)
+                    (c-trans (of-eq (dot-moved (rowOf cols U i) N))
+                    (kill-number q (q - 1) (at (rowOf cols U i) p) c (dotN (rowOf cols U i) N) (dotN s N) (omega arith) one (hs N))));
+                same = λ j l k.
+                    c-trans (w .same j (omega arith) k)
+                    (c-trans (of-eq (dot-moved (rowOf cols U j) N)) (c-trans (of-eq (omega arith)) (c-sym (hv j l k N))));
+              };
+        }
+
+-- ---- elimination by row i of a table of symbols modulo a prime, of the rows from number `from` on
+
+module _ (q : ℕ) (pr : Prime q) (rows cols from : ℕ) (U : List ℕ) (tab : Table q rows cols U) (from-rows : from ≤ rows) (i : ℕ) (i-rows : i < rows) where
+  pos : 0 < q
+  pos = omega (arith, pr .two)
+
+  r : List ℕ
+  r = rowOf cols U i
+
+  s : List ℕ
+  s = pivotRow q r
+
+  s-size : length s ≡ cols
+  unfolding s r
+  s-size = length-scaled q (inverseOf q (at r (pivotOf r))) r ∙ tab .valid i i-rows .size
+
+  pivot-here : hasPivot rows cols i U ≡ ltb (pivotOf r) cols
+  unfolding r
+  pivot-here = pivot-is q rows cols i U (tab .few-rows) (tab .few-cols) (tab .size) i-rows
+
+  fits : from * cols ≤ length U
+  fits = rows-fit rows cols from (length U) from-rows (tab .size)
+
+  is-cleared : pivotOf r < cols → eliminatedFrom q rows cols from i U ≡ clearedBy q rows cols from r U
+  unfolding r
+  is-cleared h = some-pivot q rows cols i U from (pivot-here ∙ lt-ltb (pivotOf r) cols h)
+
+  is-same : cols ≤ pivotOf r → eliminatedFrom q rows cols from i U ≡ U
+  unfolding r
+  is-same h = sym (no-pivot q rows cols i U from (pivot-here ∙ le-ltb (pivotOf r) cols h) .1)
+
+  before : pivotOf r < cols → (j : ℕ) → j < from → rowOf cols (eliminatedFrom q rows cols from i U) j ≡ rowOf cols U j
+  before h j l = ap (λ (X : List ℕ). rowOf cols X j) (is-cleared h) ∙ row-before cols from U fits _ j l
+
+  after : pivotOf r < cols → (j : ℕ) → from ≤ j → j < rows → rowOf cols (eliminatedFrom q rows cols from i U) j ≡ cleared q (pivotOf r) s (rowOf cols U j)
+  unfolding s
+  after h j l k =
+      let e : j ≡ from + (j - from) = omega arith in
+      ap₂ (λ (X : List ℕ) (x : ℕ). rowOf cols X x) (is-cleared h) e
+      ∙ row-after cols from U fits _ (j - from)
+      ∙ row-eachRow (cleared q (pivotOf r) s) (length-cleared q (pivotOf r) s) cols (rows - from) (drop (from * cols) U) (rest-size rows cols from U from-rows (tab .size)) (j - from) (omega arith)
+      ∙ ap (cleared q (pivotOf r) s) (row-rest cols from U (j - from) ∙ ap (rowOf cols U) (sym e))
+
+  pub eliminated-table : Table q rows cols (eliminatedFrom q rows cols from i U)
+  eliminated-table = go (decLt (pivotOf r) cols)
+    where
+      go : Dec (pivotOf r < cols) → Table q rows cols (eliminatedFrom q rows cols from i U)
+      go (no n) = subst (Table q rows cols) (sym (is-same (omega arith))) tab
+      go (yes h) =
+          record {
+            few-rows = tab .few-rows;
+            few-cols = tab .few-cols;
+            size = tab .size ∙ sym (length-eliminated q rows cols i U from (tab .size) from-rows);
+            valid = λ j l. each j l (decLt j from);
+          }
+        where
+          each : (j : ℕ) → j < rows → Dec (j < from) → Vector q cols (rowOf cols (eliminatedFrom q rows cols from i U) j)
+          each j l (yes k) = subst (Vector q cols) (sym (before h j k)) (tab .valid j l)
+          each j l (no k) =
+              subst (Vector q cols) (sym (after h j (omega arith) l)) (vector-cleared q pos cols (pivotOf r) s (rowOf cols U j) s-size (tab .valid j l))
+
+  -- the rows from `from` on are now rows modulo one row more
+  pub eliminated-reduced : (low : ℕ) (row : ℕ → List ℕ) (S : List (List ℕ)) → low ≤ i → Reduced q rows cols low row S U → (low′ : ℕ) → low ≤ low′ → from ≤ low′
+      → Reduced q rows cols low′ row (S ++ (row i ∷ [])) (eliminatedFrom q rows cols from i U)
+  unfolding s r
+  eliminated-reduced low row S low-i R low′ l f = go (decLt (pivotOf r) cols)
+    where
+      go : Dec (pivotOf r < cols) → Reduced q rows cols low′ row (S ++ (row i ∷ [])) (eliminatedFrom q rows cols from i U)
+      go (no n) =
+          let h : cols ≤ pivotOf r = omega arith in
+          subst (Reduced q rows cols low′ row (S ++ (row i ∷ []))) (sym (is-same h))
+          (reduced-same q rows cols low row S U i low-i i-rows R low′ l (pivot-none r (omega (arith, tab .valid i i-rows .size))))
+      go (yes h) =
+          let a : ℕ = at r (pivotOf r) in
+          let low-a : a < q = tab .valid i i-rows .small (pivotOf r) h in
+          let some : a % q ≡ 0 → ⊥ = λ z. pivot-nonzero r (omega (arith, tab .valid i i-rows .size)) (sym (mod-eq-of-lt low-a) ∙ z) in
+          reduced-step q rows cols low row S U i low-i i-rows R pos (pivotOf r) (inverseOf q a) s (eliminatedFrom q rows cols from i U)
+          (c-trans (c-sym (of-rem q (a * inverseOf q a))) (of-eq (inverse-one q a pr some .1)))
+          (dot-scaled-row q pos (inverseOf q a) r) low′ l
+          (λ j k g N.
+          subst (λ (x : List ℕ). Cong q (dotN x N) (dotN (rowOf cols U j) N + (q - 1) * at (rowOf cols U j) (pivotOf r) * dotN s N)) (sym (after h j (omega arith) g))
+          (dot-cleared q pos (pivotOf r) s (rowOf cols U j) N (tab .valid j g .size ∙ sym s-size)))
+
+-- ---- what a reduced table tells of spans
+
+module _ (q : ℕ) (pr : Prime q) (rows cols low : ℕ) (row : ℕ → List ℕ) (S : List (List ℕ)) (U : List ℕ) (tab : Table q rows cols U)
+    (hS : All (Vector q cols) S) (hrow : (j : ℕ) → j < rows → Vector q cols (row j)) (R : Reduced q rows cols low row S U) where
+  -- numbers of rows that are reduced
+  abbrev Within : List ℕ → Type 0
+  Within J = All (λ j. (low ≤ j) × (j < rows)) J
+
+  within-vectors : (f : ℕ → List ℕ) → ((j : ℕ) → j < rows → Vector q cols (f j)) → (J : List ℕ) → Within J → All (Vector q cols) (map f J)
+  within-vectors f h [] w = tt
+  within-vectors f h (j ∷ J) w = (h j (w .0 .1), within-vectors f h J (w .1))
+
+  -- what holds of the products of the old rows holds of those of the new ones
+  carried : (f g : ℕ → List ℕ) (M N : List ℕ) → ((j : ℕ) → low ≤ j → j < rows → Cong q (dotN (g j) N) (dotN (f j) M)) → (J : List ℕ) → Within J
+      → Orthogonal q (map f J) M → Orthogonal q (map g J) N
+  carried f g M N h [] w o = tt
+  carried f g M N h (j ∷ J) w o = (c-trans (h j (w .0 .0) (w .0 .1)) (o .0), carried f g M N h J (w .1) (o .1))
+
+  -- a row is in the span of others after elimination exactly where it was in the span of those and of the rows eliminated by
+  pub reduced-span : (J : List ℕ) → Within J → (j : ℕ) → low ≤ j → j < rows
+      → InSpan q cols (map (rowOf cols U) J) (rowOf cols U j) ↔ InSpan q cols (S ++ map row J) (row j)
+  reduced-span J w j l k = (
+    (λ v.
+        span-unless q pr cols (S ++ map row J) (row j) (all-append (Vector q cols) S (map row J) hS (within-vectors row hrow J w)) (hrow j k)
+        (λ t.
+        let o : Orthogonal q (S ++ map row J) (t .M) = orthogonal-cong q (S ++ map row J) (t .M) (t .orthogonal) in
+        let oS : Orthogonal q S (t .M) = all-left (λ s. Cong q (dotN s (t .M)) 0) S (map row J) o in
+        zero-not-one q (pr .two)
+        (c-trans
+        (c-sym (span-dot q cols (map (rowOf cols U) J) (rowOf cols U j) (t .M) v
+        (carried row (rowOf cols U) (t .M) (t .M) (R .down (t .M) oS) J w (all-right (λ s. Cong q (dotN s (t .M)) 0) S (map row J) o))))
+        (c-trans (R .down (t .M) oS j l k) (cong-one q (pr .two) (dotN (row j) (t .M)) (t .one)))))),
+    (λ v.
+        span-unless q pr cols (map (rowOf cols U) J) (rowOf cols U j) (within-vectors (rowOf cols U) (tab .valid) J w) (tab .valid j k)
+        (λ t.
+        let p = R .up (t .M) in
+        zero-not-one q (pr .two)
+        (c-trans
+        (c-sym (span-dot q cols (S ++ map row J) (row j) (p .N′) v
+        (all-append (λ s. Cong q (dotN s (p .N′)) 0) S (map row J) (p .none)
+        (carried (rowOf cols U) row (t .M) (p .N′) (p .same) J w (orthogonal-cong q (map (rowOf cols U) J) (t .M) (t .orthogonal))))))
+        (c-trans (p .same j l k) (cong-one q (pr .two) (dotN (rowOf cols U j) (t .M)) (t .one)))))),
+  )
+
+  -- a row has no pivot exactly where it was in the span of the rows eliminated by
+  pub pivot-outside : (j : ℕ) → low ≤ j → j < rows → _≡_ {A = ℕ} (cond (hasPivot rows cols j U) 1 0) (cond (inSpan q cols S (row j)) 0 1)
+  pivot-outside j l k = go (decLt (pivotOf (rowOf cols U j)) cols)
+    where
+      pos′ : 0 < q
+      pos′ = omega (arith, pr .two)
+
+      here : hasPivot rows cols j U ≡ ltb (pivotOf (rowOf cols U j)) cols
+      here = pivot-is q rows cols j U (tab .few-rows) (tab .few-cols) (tab .size) k
+
+      -- with a list that picks the pivot out
+      outside : pivotOf (rowOf cols U j) < cols → T (inSpan q cols S (row j)) → ⊥
+      outside h t =
+          let p : ℕ = pivotOf (rowOf cols U j) in
+          let w = R .up (zeros p ++ (1 ∷ [])) in
+          let v : InSpan q cols S (row j) = in-span-iff q cols pos′ S (row j) hS .0 t in
+          let z : Cong q (at (rowOf cols U j) p) 0
+          = c-trans (of-eq (sym (dot-pick p (rowOf cols U j)))) (c-trans (c-sym (w .same j l k)) (span-dot q cols S (row j) (w .N′) v (w .none))) in
+          pivot-nonzero (rowOf cols U j) (omega (arith, tab .valid j k .size)) (sym (mod-eq-of-lt (tab .valid j k .small p h)) ∙ to-mod z ∙ zero-mod q)
+
+      inside : cols ≤ pivotOf (rowOf cols U j) → T (inSpan q cols S (row j))
+      inside h =
+          in-span-iff q cols pos′ S (row j) hS .1
+          (span-unless q pr cols S (row j) hS (hrow j k)
+          (λ t.
+          zero-not-one q (pr .two)
+          (c-trans (of-eq (sym (pivot-none (rowOf cols U j) (omega (arith, tab .valid j k .size)) (t .M))))
+          (c-trans (R .down (t .M) (orthogonal-cong q S (t .M) (t .orthogonal)) j l k) (cong-one q (pr .two) (dotN (row j) (t .M)) (t .one))))))
+
+      go : Dec (pivotOf (rowOf cols U j) < cols) → _≡_ {A = ℕ} (cond (hasPivot rows cols j U) 1 0) (cond (inSpan q cols S (row j)) 0 1)
+      go (yes h) =
+          ap (λ (x : Bool). cond x 1 0) (here ∙ lt-ltb (pivotOf (rowOf cols U j)) cols h)
+          ∙ sym (ap (λ (x : Bool). cond x 0 1) (not-T→false (inSpan q cols S (row j)) (outside h)))
+      go (no n) =
+          ap (λ (x : Bool). cond x 1 0) (here ∙ le-ltb (pivotOf (rowOf cols U j)) cols (omega arith))
+          ∙ sym (ap (λ (x : Bool). cond x 0 1) (T→true (inSpan q cols S (row j)) (inside (omega arith))))
+
+-- ---- the rank
+
+module _ (q : ℕ) (pr : Prime q) (rows cols : ℕ) (T : List ℕ) (valid : (j : ℕ) → j < rows → Vector q cols (rowOf cols T j)) where
+  -- the pivots from row i on: the rows that are not in the span of S and the rows before them
+  pivots-rank : (k i : ℕ) (S : List (List ℕ)) (U : List ℕ) → i + k ≡ rows → All (Vector q cols) S → Table q rows cols U
+      → Reduced q rows cols i (rowOf cols T) S U → pivotsFrom q rows cols k i U ≡ rankOver q cols S (rowsOf k cols (drop (i * cols) T))
+  unfolding pivotsFrom rankOver rowsOf
+  pivots-rank zero i S U e hS tab R = refl
+  pivots-rank (suc k) i S U e hS tab R =
+      let h : i < rows = omega arith in
+      ap₂ _+_
+      (pivot-outside q pr rows cols i (rowOf cols T) S U tab hS valid R i (omega arith) h)
+      (pivots-rank k (i + 1) (S ++ (rowOf cols T i ∷ [])) (eliminatedFrom q rows cols (i + 1) i U) (omega arith)
+      (all-snoc (Vector q cols) S (rowOf cols T i) hS (valid i h))
+      (eliminated-table q pr rows cols (i + 1) U tab (omega arith) i h)
+      (eliminated-reduced q pr rows cols (i + 1) U tab (omega arith) i h i (rowOf cols T) S (omega arith) R (i + 1) (omega arith) (omega arith)))
+      ∙ sym (ap (rankOver q cols S) (rows-from cols k i T))
+
+-- elimination counts the rank
+pub pivots-are-rank : (q : ℕ) → Prime q → (rows cols : ℕ) (T : List ℕ) → Table q rows cols T → pivotsFrom q rows cols rows 0 T ≡ rankOf q cols (rowsOf rows cols T)
+pivots-are-rank q pr rows cols T tab =
+    pivots-rank q pr rows cols T (tab .valid) rows 0 [] T (omega arith) tt tab (reduced-none q rows cols T)
+    ∙ ap (λ (n : ℕ). rankOf q cols (rowsOf rows cols (drop n T))) {x = 0 * cols} {y = 0} (omega arith)
+
+-- a table whose size and symbols were tested
+pub table-of : (q rows cols : ℕ) (T : List ℕ) → 0 < q → rows ≤ 48 → cols ≤ 48 → rows * cols ≡ length T → lib.Dec.T (allBelow q T) → Table q rows cols T
+table-of q rows cols T pos h k e t =
+    record { few-rows = h; few-cols = k; size = e; valid = vector-row q pos rows cols T e t }

@@ -1,0 +1,12 @@
+pub mod Vectors
+pub mod Spans
+pub mod Duality
+pub mod RankLaws
+pub mod Solvability
+pub mod LargestRank
+pub mod Elimination
+pub mod EliminateLaw
+mod RankExamples
+mod Steps
+mod Rows
+mod RankChecks

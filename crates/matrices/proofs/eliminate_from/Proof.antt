@@ -1,0 +1,87 @@
+use borrow.Author.Tests.{lt-ltb, le-ltb}
+use mathlib.Core.Path.{_≡_, sym, ap, _∙_, subst}
+use mathlib.Core.Bool.{true}
+use Prim.Native.Nat.{ℕ, _+_, _-_, _*_, _≤_, _<_}
+use native.Mathlib.Omega.{arith}
+use lib.Dec.{ltb}
+use lib.ListN.{length, take, drop}
+use Rattle.matrices.specs.Tables.{rowOf, pivotOf, hasPivot}
+use Rattle.matrices.proofs.Steps.{row-fits, pivot-is, no-pivot, some-pivot}
+use borrow.Author.Needs.{needs}
+use Rattle.matrices.proofs.eliminate_from.Statement.{statement}
+use Rattle.matrices.proofs.eliminate_from.Tie as tie
+
+-- row i lies in the table
+fits : (s : tie.Start) → s .args .i * s .args .cols + s .args .cols ≤ length (s .args .table .now)
+fits s = row-fits (s .args .rows) (s .args .cols) (s .args .i) (length (s .args .table .now)) (s .pre .4) (s .pre .2)
+
+is-pivot : (s : tie.Start) → (let a = s .args in hasPivot (a .rows) (a .cols) (a .i) (a .table .now) ≡ ltb (pivotOf (rowOf (a .cols) (a .table .now) (a .i))) (a .cols))
+is-pivot s = pivot-is 0 (s .args .rows) (s .args .cols) (s .args .i) (s .args .table .now) (s .pre .0) (s .pre .1) (s .pre .2) (s .pre .4)
+
+-- the part that was lent is row i
+found : (s : tie.Start) {p : ℕ} → (let a = s .args in p ≡ pivotOf (take (a .i * a .cols + a .cols - a .i * a .cols) (drop (a .i * a .cols) (a .table .now))) → p ≡ pivotOf (rowOf (a .cols) (a .table .now) (a .i)))
+found s e =
+    let a = s .args in
+    let k : a .i * a .cols + a .cols - a .i * a .cols ≡ a .cols = omega arith in
+    e ∙ ap (λ (n : ℕ). pivotOf (take n (drop (a .i * a .cols) (a .table .now)))) k
+
+mul-b : tie.Need-mul-b
+mul-b c = omega (arith, fits (c .before))
+
+add-e : tie.Need-add-e
+add-e c = omega (arith, fits (c .before))
+
+mul-pivot : tie.Need-mul-pivot
+mul-pivot c = omega (arith, fits (c .before))
+
+sub-pivot : tie.Need-sub-pivot
+sub-pivot c = search needs
+
+part-pivot-start : tie.Need-part-pivot-start
+part-pivot-start c = search needs
+
+part-pivot-end : tie.Need-part-pivot-end
+part-pivot-end c = fits (c .before .before)
+
+pivot-requires : tie.Need-pivot-requires
+pivot-requires c κs = search needs
+
+same-length : tie.Need-same-length
+same-length c = search needs
+
+returns : tie.Need-returns
+returns c =
+    let s = c .before .before .before .before .before in
+    no-pivot _ _ _ _ _ _ (is-pivot s ∙ le-ltb _ _ (subst (λ (n : ℕ). s .args .cols ≤ n) (found s (c .before .pivot .ensures)) (c .if1 .taken)))
+
+clear-from-requires : tie.Need-clear-from-requires
+clear-from-requires c κs =
+    let s = c .before .before .before .before .before .before in
+    (s .pre .2, s .pre .1, s .pre .3, s .pre .4, c .before .if1 .left, found s (c .before .before .pivot .ensures))
+
+same-length-2 : tie.Need-same-length-2
+same-length-2 c = search needs
+
+returns-2 : tie.Need-returns-2
+returns-2 c =
+    let s = c .before .before .before .before .before .before .before .before .before in
+    let a = s .args in
+    let e : hasPivot (a .rows) (a .cols) (a .i) (a .table .now) ≡ true = is-pivot s ∙ lt-ltb _ _ (subst (λ (n : ℕ). n < a .cols) (found s (c .before .before .before .before .before .pivot .ensures)) (c .before .before .before .before .if1 .left)) in
+    (sym e, c .before .before .clear-from .ensures ∙ sym (some-pivot (a .q) (a .rows) (a .cols) (a .i) (a .table .now) (a .from) e))
+
+pub eliminate-from-spec : {M : Type 1} → statement M
+eliminate-from-spec =
+    tie.close
+    (tie.spec
+    mul-b
+    add-e
+    mul-pivot
+    sub-pivot
+    part-pivot-start
+    part-pivot-end
+    pivot-requires
+    same-length
+    returns
+    clear-from-requires
+    same-length-2
+    returns-2)

@@ -1,0 +1,64 @@
+-- The invariant: what is left of the row has its pivot where the row has it.
+use borrow.Author.Needs.{needs}
+use mathlib.Core.Path.{_≡_, ap}
+use mathlib.Core.List.{List}
+use Prim.Native.Nat.{ℕ, suc, _+_, _-_, _≤_}
+use native.Mathlib.Nat.{zero-add}
+use native.Mathlib.Numerals.{add-one}
+use native.Mathlib.Omega.{arith}
+use lib.ListN.{length, drop}
+use Rattle.matrices.specs.Tables.{pivotOf}
+use Rattle.matrices.proofs.Steps.{pivot-miss, pivot-hit, pivot-end}
+use Rattle.matrices.proofs.pivot.Statement.{statement}
+use Rattle.matrices.proofs.pivot.Tie as tie
+
+abbrev Inv-loop : tie.InvT-loop
+Inv-loop row k₀ k = (k ≤ length row) × (k + pivotOf (drop k row) ≡ pivotOf row)
+
+abbrev μ-loop : tie.MeasureT-loop
+μ-loop row k₀ k = length row - k
+
+loop-holds : tie.Need-loop-holds Inv-loop μ-loop
+loop-holds c = (omega arith, zero-add _)
+
+mul-if1 : tie.Need-mul-if1 Inv-loop μ-loop
+mul-if1 c = search needs
+
+shared-slice-read-if1 : tie.Need-shared-slice-read-if1 Inv-loop μ-loop
+shared-slice-read-if1 c = search needs
+
+returns : tie.Need-returns Inv-loop μ-loop
+returns c =
+    let s = c .before .before .before .loop in
+    omega (arith, s .inv .1, pivot-hit (c .before .before .before .before .args .row .now) (s .k) (c .before .before .loop-test .taken) (c .if1 .taken))
+
+add-k : tie.Need-add-k Inv-loop μ-loop
+add-k c = search needs
+
+loop-less : tie.Need-loop-less Inv-loop μ-loop
+loop-less c = search needs
+
+loop-again : tie.Need-loop-again Inv-loop μ-loop
+loop-again c =
+    let s = c .before .before .before .loop in
+    let r : List ℕ = c .before .before .before .before .args .row .now in
+    let e : pivotOf (drop (s .k + 1) r) ≡ pivotOf (drop (suc (s .k)) r) = ap (λ (n : ℕ). pivotOf (drop n r)) (add-one (s .k)) in
+    (omega arith, omega (arith, s .inv .1, e, pivot-miss r (s .k) (c .before .before .loop-test .taken) (c .if1 .left)))
+
+returns-2 : tie.Need-returns-2 Inv-loop μ-loop
+returns-2 c = omega (arith, c .before .loop .inv .1, pivot-end (c .before .before .args .row .now) (c .before .loop .k) (c .loop-test .left))
+
+pub pivot-spec : {M : Type 1} → statement M
+pivot-spec =
+    tie.close
+    (tie.spec
+    Inv-loop
+    μ-loop
+    loop-holds
+    mul-if1
+    shared-slice-read-if1
+    returns
+    add-k
+    loop-less
+    loop-again
+    returns-2)

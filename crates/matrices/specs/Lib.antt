@@ -1,0 +1,4 @@
+pub mod Linear
+pub mod Rank
+pub mod Tables
+pub mod Entries
