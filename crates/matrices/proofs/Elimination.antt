@@ -4,7 +4,7 @@
 use mathlib.Core.Path.{_≡_, refl, sym, ap, ap₂, _∙_, subst}
 use mathlib.Core.Bool.{Bool, true, false, cond}
 use mathlib.Core.Logic.{_↔_, ⊎-elim}
-use mathlib.Core.List.{List, [], _∷_, _++_, map, append-nil}
+use mathlib.Core.List.{List, [], _∷_, _++_, map, map-append, append-assoc}
 use Prim.Native.Nat.{ℕ, zero, suc, _+_, _-_, _*_, _%_, _≤_, _<_}
 use native.Mathlib.Nat.{mod-eq-of-lt, zero-mod}
 use native.Mathlib.Decide.{decLt}
@@ -17,7 +17,7 @@ use Rattle.arithmetic.specs.Field.{inverseOf}
 use Rattle.arithmetic.proofs.Searches.{T→true, not-T→false}
 use Rattle.arithmetic.proofs.Congruence.{Cong, to-mod, of-eq, of-rem, of-mod, c-refl, c-sym, c-trans, c-add, c-mul-left, c-mul-right, cong-zero, zero-cong, cong-one, zero-not-one}
 use Rattle.arithmetic.proofs.InverseLaws.{inverse-one}
-use Rattle.matrices.specs.Linear.{at, All, Vector, dotN, dot, add, scale, zeros, combN, comb, reduce, InSpan, Separated}
+use Rattle.matrices.specs.Linear.{at, All, Vector, dotN, dot, add, scale, zeros, combN, comb, reduce, InSpan, Separated, Independent}
 use Rattle.matrices.specs.Rank.{inSpan, rankOver, rankOf}
 use Rattle.matrices.specs.Tables.{rowOf, rowsOf, pivotOf, cleared, pivotRow, hasPivot, clearedBy, eliminatedFrom, eliminated, pivotsFrom}
 use Rattle.matrices.proofs.Vectors.{all-append, all-left, all-right, all-snoc, all-map, dot-right}
@@ -205,6 +205,10 @@ module _ (q : ℕ) (pr : Prime q) (rows cols from : ℕ) (U : List ℕ) (tab : T
           subst (λ (x : List ℕ). Cong q (dotN x N) (dotN (rowOf cols U j) N + (q - 1) * at (rowOf cols U j) (pivotOf r) * dotN s N)) (sym (after h j (omega arith) g))
           (dot-cleared q pos (pivotOf r) s (rowOf cols U j) N (tab .valid j g .size ∙ sym s-size)))
 
+-- a table keeps its length
+pub eliminated-length : (q rows cols i : ℕ) (T : List ℕ) → rows * cols ≡ length T → length (eliminated q rows cols i T) ≡ length T
+eliminated-length q rows cols i T e = length-eliminated q rows cols i T 0 e (omega arith)
+
 -- ---- what a reduced table tells of spans
 
 module _ (q : ℕ) (pr : Prime q) (rows cols low : ℕ) (row : ℕ → List ℕ) (S : List (List ℕ)) (U : List ℕ) (tab : Table q rows cols U)
@@ -248,6 +252,28 @@ module _ (q : ℕ) (pr : Prime q) (rows cols low : ℕ) (row : ℕ → List ℕ)
         (carried (rowOf cols U) row (t .M) (p .N′) (p .same) J w (orthogonal-cong q (map (rowOf cols U) J) (t .M) (t .orthogonal))))))
         (c-trans (p .same j l k) (cong-one q (pr .two) (dotN (rowOf cols U j) (t .M)) (t .one)))))),
   )
+
+  -- so rows are independent over others exactly where they were independent over those and the rows eliminated by
+  pub reduced-independent : (A J : List ℕ) → Within A → Within J
+      → Independent q cols (map (rowOf cols U) A) (map (rowOf cols U) J) ↔ Independent q cols (S ++ map row A) (map row J)
+  reduced-independent A [] a w = (λ t. tt, λ t. tt)
+  reduced-independent A (j ∷ J) a w =
+      let here = reduced-span A a j (w .0 .0) (w .0 .1) in
+      let next = reduced-independent (A ++ (j ∷ [])) J (all-snoc (λ j. (low ≤ j) × (j < rows)) A j a (w .0)) (w .1) in
+      let before : map (rowOf cols U) (A ++ (j ∷ [])) ≡ map (rowOf cols U) A ++ (rowOf cols U j ∷ []) = map-append (rowOf cols U) A (j ∷ []) in
+      let after : S ++ map row (A ++ (j ∷ [])) ≡ (S ++ map row A) ++ (row j ∷ [])
+      = ap (λ (X : List (List ℕ)). S ++ X) (map-append row A (j ∷ [])) ∙ sym (append-assoc S (map row A) (row j ∷ [])) in (
+        (λ t. (
+          (λ v. t .0 (here .1 v)),
+          subst (λ (G : List (List ℕ)). Independent q cols G (map row J)) after
+              (next .0 (subst (λ (G : List (List ℕ)). Independent q cols G (map (rowOf cols U) J)) (sym before) (t .1))),
+        )),
+        (λ t. (
+          (λ v. t .0 (here .0 v)),
+          subst (λ (G : List (List ℕ)). Independent q cols G (map (rowOf cols U) J)) before
+              (next .1 (subst (λ (G : List (List ℕ)). Independent q cols G (map row J)) (sym after) (t .1))),
+        )),
+      )
 
   -- a row has no pivot exactly where it was in the span of the rows eliminated by
   pub pivot-outside : (j : ℕ) → low ≤ j → j < rows → _≡_ {A = ℕ} (cond (hasPivot rows cols j U) 1 0) (cond (inSpan q cols S (row j)) 0 1)

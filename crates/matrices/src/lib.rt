@@ -2,7 +2,7 @@
 ghost use mathlib.Core.Path.{_≡_};
 ghost use Prim.Native.Nat.{_*_, _≤_, _<_};
 ghost use mathlib.Core.Bool.{cond};
-ghost use lib.Dec.{ltb};
+ghost use lib.Dec.{eqb};
 ghost use lib.ListN.{length};
 ghost use Rattle.refusals.specs.Codes.{firstOf, verdictCode, outcome};
 ghost use Rattle.matrices.specs.Tables.{rowOf, rowsOf, pivotOf, scaled, fused, cleared, eachRow, hasPivot, clearedBy, eliminatedFrom, eliminated, reducedFrom, pivotsFrom};
@@ -171,7 +171,16 @@ fn count_pivots(q: Symbol, rows: usize, cols: usize, table: &mut [Symbol]) -> us
     n
 }
 
-fn copy(from: &[Symbol], to: &mut [Symbol])
+// Copies symbols to as many; to another number nothing is copied.
+pub fn copy(from: &[Symbol], to: &mut [Symbol])
+    ensures { λ _. ⌜ now (to .exit) ≡ cond (eqb (length (now (from .entry))) (length (now (to .entry)))) (now (from .entry)) (now (to .entry)) ⌝ }
+{
+    if from.len() == to.len() {
+        copy_all(from, to);
+    }
+}
+
+fn copy_all(from: &[Symbol], to: &mut [Symbol])
     requires { ⌜ length (now from) ≡ length (now to) ⌝ }
     ensures { λ _. ⌜ now (to .exit) ≡ now (from .entry) ⌝ }
 {
@@ -189,7 +198,7 @@ fn count_in_copy(q: Symbol, rows: usize, cols: usize, table: &[Symbol]) -> usize
 {
     let m = rows * cols;
     let mut t = [0u16; 2304];
-    copy(table, &mut t[..m]);
+    copy_all(table, &mut t[..m]);
     count_pivots(q, rows, cols, &mut t[..m])
 }
 

@@ -1,67 +1,19 @@
--- The invariant: the fronts are the same.
+use borrow.Author.Tests.{eq-eqb, ne-eqb}
 use borrow.Author.Needs.{needs}
-use mathlib.Core.Path.{_≡_, refl, sym, _∙_}
-use mathlib.Core.List.{List}
-use Prim.Native.Nat.{ℕ, _-_, _≤_, _<_}
-use native.Mathlib.Omega.{arith}
-use lib.ListN.{length, getD, take, length-set}
-use Rattle.matrices.proofs.Steps.{copy-next, copy-done}
 use Rattle.matrices.proofs.copy.Statement.{statement}
 use Rattle.matrices.proofs.copy.Tie as tie
 
-abbrev Inv-loop : tie.InvT-loop
-Inv-loop from to₀ j₀ to j = (j ≤ length from) × (length to ≡ length from) × (take j to ≡ take j from)
+copy-all-requires : tie.Need-copy-all-requires
+copy-all-requires c κs = search needs
 
-abbrev μ-loop : tie.MeasureT-loop
-μ-loop from to₀ j₀ to j = length from - j
+same-length : tie.Need-same-length
+same-length c = search needs
 
-loop-holds : tie.Need-loop-holds Inv-loop μ-loop
-loop-holds c = (omega arith, sym (c .pre), refl)
+returns : tie.Need-returns
+returns c = simp (eq-eqb _ _ (c .before .before .before .before .if1 .taken)) (c .before .before .copy-all .ensures)
 
-mul-to : tie.Need-mul-to Inv-loop μ-loop
-mul-to c = search needs
-
-shared-slice-read-to : tie.Need-shared-slice-read-to Inv-loop μ-loop
-shared-slice-read-to c = search needs
-
-mul-to-2 : tie.Need-mul-to-2 Inv-loop μ-loop
-mul-to-2 c = search needs
-
-slice-write-to : tie.Need-slice-write-to Inv-loop μ-loop
-slice-write-to c = search needs
-
-add-j : tie.Need-add-j Inv-loop μ-loop
-add-j c = search needs
-
-loop-less : tie.Need-loop-less Inv-loop μ-loop
-loop-less c = search needs
-
-loop-again : tie.Need-loop-again Inv-loop μ-loop
-loop-again c =
-    let s = c .before .before .loop in
-    let f : List ℕ = c .before .before .before .args .from .now in
-    let h : s .j < length f = c .before .loop-test .taken in
-    (omega arith, length-set (s .to) (s .j) (getD f (s .j) 0) ∙ s .inv .1, copy-next f (s .to) (s .j) h (s .inv .1) (s .inv .2))
-
-same-length : tie.Need-same-length Inv-loop μ-loop
-same-length c = c .before .loop .inv .1 ∙ c .before .before .pre
-
-returns : tie.Need-returns Inv-loop μ-loop
-returns c = copy-done _ (c .before .loop .to) (c .before .loop .j) (c .loop-test .left) (c .before .loop .inv .1) (c .before .loop .inv .2)
+returns-2 : tie.Need-returns-2
+returns-2 c = simp (ne-eqb _ _ (c .if1 .left))
 
 pub copy-spec : {M : Type 1} → statement M
-copy-spec =
-    tie.close
-    (tie.spec
-    Inv-loop
-    μ-loop
-    loop-holds
-    mul-to
-    shared-slice-read-to
-    mul-to-2
-    slice-write-to
-    add-j
-    loop-less
-    loop-again
-    same-length
-    returns)
+copy-spec = tie.close (tie.spec copy-all-requires same-length returns returns-2)

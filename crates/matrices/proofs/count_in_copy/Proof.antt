@@ -19,13 +19,13 @@ mul-m c = search needs
 array-borrow-prefix-t : tie.Need-array-borrow-prefix-t
 array-borrow-prefix-t c = numbers (c .before)
 
-slice-aggregate-copy : tie.Need-slice-aggregate-copy
-slice-aggregate-copy c =
+slice-aggregate-copy-all : tie.Need-slice-aggregate-copy-all
+slice-aggregate-copy-all c =
     let a = c .before .before .args in
     sym (length-take-le (a .rows * a .cols) _ (numbers (c .before .before)))
 
-copy-requires : tie.Need-copy-requires
-copy-requires c κs =
+copy-all-requires : tie.Need-copy-all-requires
+copy-all-requires c κs =
     let a = c .before .before .args in
     sym (c .before .before .pre .2) ∙ sym (length-take-le (a .rows * a .cols) _ (numbers (c .before .before)))
 
@@ -33,24 +33,24 @@ array-borrow-prefix-t-2 : tie.Need-array-borrow-prefix-t-2
 array-borrow-prefix-t-2 c =
     let s = c .before .before .before .before in
     let m : ℕ = s .args .rows * s .args .cols in
-    subst (λ (n : ℕ). m ≤ n) (sym (copied-size _ _ _ m (c .before .copy .ensures) (s .pre .2) (numbers s))) (numbers s)
+    subst (λ (n : ℕ). m ≤ n) (sym (copied-size _ _ _ m (c .before .copy-all .ensures) (s .pre .2) (numbers s))) (numbers s)
 
 slice-aggregate-count-pivots : tie.Need-slice-aggregate-count-pivots
 slice-aggregate-count-pivots c =
     let s = c .before .before .before .before .before in
-    s .pre .2 ∙ sym (ap length (copied-front _ _ _ (s .args .rows * s .args .cols) (c .before .before .copy .ensures) (s .pre .2)))
+    s .pre .2 ∙ sym (ap length (copied-front _ _ _ (s .args .rows * s .args .cols) (c .before .before .copy-all .ensures) (s .pre .2)))
 
 count-pivots-requires : tie.Need-count-pivots-requires
 count-pivots-requires c κs =
     let s = c .before .before .before .before .before in
-    (s .pre .0, s .pre .1, s .pre .2 ∙ sym (ap length (copied-front _ _ _ (s .args .rows * s .args .cols) (c .before .before .copy .ensures) (s .pre .2))))
+    (s .pre .0, s .pre .1, s .pre .2 ∙ sym (ap length (copied-front _ _ _ (s .args .rows * s .args .cols) (c .before .before .copy-all .ensures) (s .pre .2))))
 
 returns : tie.Need-returns
 returns c =
     let s = c .before .before .before .before .before .before .before in
     let a = s .args in
     c .before .count-pivots .ensures .0
-    ∙ ap (pivotsFrom (a .q) (a .rows) (a .cols) (a .rows) 0) (copied-front _ _ _ (a .rows * a .cols) (c .before .before .before .before .copy .ensures) (s .pre .2))
+    ∙ ap (pivotsFrom (a .q) (a .rows) (a .cols) (a .rows) 0) (copied-front _ _ _ (a .rows * a .cols) (c .before .before .before .before .copy-all .ensures) (s .pre .2))
 
 pub count-in-copy-spec : {M : Type 1} → statement M
 count-in-copy-spec =
@@ -58,8 +58,8 @@ count-in-copy-spec =
     (tie.spec
     mul-m
     array-borrow-prefix-t
-    slice-aggregate-copy
-    copy-requires
+    slice-aggregate-copy-all
+    copy-all-requires
     array-borrow-prefix-t-2
     slice-aggregate-count-pivots
     count-pivots-requires

@@ -1,0 +1,67 @@
+-- The invariant: the fronts are the same.
+use borrow.Author.Needs.{needs}
+use mathlib.Core.Path.{_≡_, refl, sym, _∙_}
+use mathlib.Core.List.{List}
+use Prim.Native.Nat.{ℕ, _-_, _≤_, _<_}
+use native.Mathlib.Omega.{arith}
+use lib.ListN.{length, getD, take, length-set}
+use Rattle.matrices.proofs.Steps.{copy-next, copy-done}
+use Rattle.matrices.proofs.copy_all.Statement.{statement}
+use Rattle.matrices.proofs.copy_all.Tie as tie
+
+abbrev Inv-loop : tie.InvT-loop
+Inv-loop from to₀ j₀ to j = (j ≤ length from) × (length to ≡ length from) × (take j to ≡ take j from)
+
+abbrev μ-loop : tie.MeasureT-loop
+μ-loop from to₀ j₀ to j = length from - j
+
+loop-holds : tie.Need-loop-holds Inv-loop μ-loop
+loop-holds c = (omega arith, sym (c .pre), refl)
+
+mul-to : tie.Need-mul-to Inv-loop μ-loop
+mul-to c = search needs
+
+shared-slice-read-to : tie.Need-shared-slice-read-to Inv-loop μ-loop
+shared-slice-read-to c = search needs
+
+mul-to-2 : tie.Need-mul-to-2 Inv-loop μ-loop
+mul-to-2 c = search needs
+
+slice-write-to : tie.Need-slice-write-to Inv-loop μ-loop
+slice-write-to c = search needs
+
+add-j : tie.Need-add-j Inv-loop μ-loop
+add-j c = search needs
+
+loop-less : tie.Need-loop-less Inv-loop μ-loop
+loop-less c = search needs
+
+loop-again : tie.Need-loop-again Inv-loop μ-loop
+loop-again c =
+    let s = c .before .before .loop in
+    let f : List ℕ = c .before .before .before .args .from .now in
+    let h : s .j < length f = c .before .loop-test .taken in
+    (omega arith, length-set (s .to) (s .j) (getD f (s .j) 0) ∙ s .inv .1, copy-next f (s .to) (s .j) h (s .inv .1) (s .inv .2))
+
+same-length : tie.Need-same-length Inv-loop μ-loop
+same-length c = c .before .loop .inv .1 ∙ c .before .before .pre
+
+returns : tie.Need-returns Inv-loop μ-loop
+returns c = copy-done _ (c .before .loop .to) (c .before .loop .j) (c .loop-test .left) (c .before .loop .inv .1) (c .before .loop .inv .2)
+
+pub copy-all-spec : {M : Type 1} → statement M
+copy-all-spec =
+    tie.close
+    (tie.spec
+    Inv-loop
+    μ-loop
+    loop-holds
+    mul-to
+    shared-slice-read-to
+    mul-to-2
+    slice-write-to
+    add-j
+    loop-less
+    loop-again
+    same-length
+    returns)

@@ -1,0 +1,17 @@
+pub mod Sums
+pub mod ListLaws
+pub mod Units
+pub mod CountLaws
+pub mod Forms
+pub mod Hiding
+pub mod Readings
+pub mod RankCondition
+pub mod PoolForms
+pub mod Observers
+pub mod Relays
+pub mod Server
+pub mod Verdicts
+mod Independence
+mod Coalitions
+mod Clusters
+mod LeakTest

@@ -1,0 +1,171 @@
+-- Laws of lists made of their entries, and of lists that are picked.
+use Prim.Native.Nat.{ℕ, zero, suc, _+_, _-_, _*_, _<_, suc-le-suc}
+use mathlib.Core.Path.{_≡_, refl, sym, ap, ap₂, _∙_, subst}
+use mathlib.Core.Bool.{Bool, true, false, cond}
+use mathlib.Core.Logic.{⊎-elim}
+use mathlib.Core.List.{List, [], _∷_, _++_, map, map-append, head-eq-of-cons-eq, tail-eq-of-cons-eq}
+use native.Mathlib.Nat.{suc-ne-zero, suc-inj, not-suc-le-zero, le-of-suc-le-suc, lt-suc-self, zero-lt-suc, eq-or-lt-of-le}
+use native.Mathlib.Decide.{decLt}
+use native.Mathlib.Omega.{arith}
+use lib.ListN.{length, length-append, List·getD-append, List·getD-eq-default}
+use lib.Seq.{ext-getD, getD-append-add}
+use lib.Dec.{T}
+use Rattle.matrices.specs.Linear.{at, All, Vector, dotN}
+use Rattle.matrices.proofs.Vectors.{all-append, all-left, all-right, all-at}
+use Rattle.secrecy.specs.Lists.{tab, joinTo, picked}
+use Rattle.secrecy.specs.Counts.{sumTo, howMany}
+use Rattle.secrecy.proofs.Sums.{sum-front}
+
+-- ---- a list by its entries
+
+-- an entry of a list made of its entries
+pub at-tab : (n : ℕ) (f : ℕ → ℕ) (i : ℕ) → i < n → at (tab n f) i ≡ f i
+unfolding tab
+at-tab zero f i h = absurd (not-suc-le-zero h)
+at-tab (suc n) f zero h = refl
+at-tab (suc n) f (suc i) h = at-tab n (λ k. f (suc k)) i (le-of-suc-le-suc h)
+
+-- its length
+pub length-tab : (n : ℕ) (f : ℕ → ℕ) → length (tab n f) ≡ n
+unfolding tab
+length-tab zero f = refl
+length-tab (suc n) f = ap suc (length-tab n (λ k. f (suc k)))
+
+-- equal entries make equal lists
+pub tab-cong : (n : ℕ) (f g : ℕ → ℕ) → ((k : ℕ) → k < n → f k ≡ g k) → tab n f ≡ tab n g
+unfolding tab
+tab-cong zero f g h = refl
+tab-cong (suc n) f g h = ap₂ _∷_ (h 0 (zero-lt-suc n)) (tab-cong n (λ k. f (suc k)) (λ k. g (suc k)) (λ k l. h (suc k) (suc-le-suc l)))
+
+-- a list is made of its entries
+pub tab-at : (n : ℕ) (f : ℕ → ℕ) (l : List ℕ) → length l ≡ n → ((k : ℕ) → k < n → f k ≡ at l k) → tab n f ≡ l
+tab-at n f l e h =
+    ext-getD 0 (tab n f) l (length-tab n f ∙ sym e)
+    (λ i k. let b : i < n = subst (λ (z : ℕ). i < z) (length-tab n f) k in at-tab n f i b ∙ h i b)
+
+-- entries below q
+pub tab-vector : (q n : ℕ) (f : ℕ → ℕ) → ((k : ℕ) → k < n → f k < q) → Vector q n (tab n f)
+tab-vector q n f h =
+    record { size = length-tab n f; small = λ i l. subst (λ (z : ℕ). z < q) (sym (at-tab n f i l)) (h i l) }
+
+-- the product of two lists made of their entries
+pub dot-tab : (n : ℕ) (f g : ℕ → ℕ) → dotN (tab n f) (tab n g) ≡ sumTo n (λ k. f k * g k)
+unfolding tab sumTo
+dot-tab zero f g = refl
+dot-tab (suc n) f g =
+    ap (λ (z : ℕ). f 0 * g 0 + z) (dot-tab n (λ k. f (suc k)) (λ k. g (suc k))) ∙ sym (sum-front n (λ k. f k * g k))
+
+-- ---- numbers below q
+
+-- past the end stands 0, which is below q too
+pub entry-below : (q n : ℕ) (l : List ℕ) → 0 < q → Vector q n l → (k : ℕ) → at l k < q
+entry-below q n l pos v k = go (decLt k n)
+  where
+    go : Dec (k < n) → at l k < q
+    go (yes h) = v .small k h
+    go (no h) = subst (λ (z : ℕ). z < q) (sym (List·getD-eq-default l 0 (omega (arith, v .size)))) pos
+
+-- one list after the other
+pub vector-append : (q m n : ℕ) (a c : List ℕ) → Vector q m a → Vector q n c → Vector q (m + n) (a ++ c)
+vector-append q m n a c v w =
+    record { size = length-append a c ∙ ap₂ _+_ (v .size) (w .size); small = λ i l. go i l (decLt i m) }
+  where
+    go : (i : ℕ) → i < m + n → Dec (i < m) → at (a ++ c) i < q
+    go i l (yes h) = subst (λ (z : ℕ). z < q) (sym (List·getD-append a c 0 i (omega (arith, v .size)))) (v .small i h)
+    go i l (no h) =
+        subst (λ (z : ℕ). z < q)
+        (sym (ap (at (a ++ c)) (omega (arith, v .size)) ∙ getD-append-add a c (i - m) 0))
+        (w .small (i - m) (omega arith))
+
+-- ---- what is picked
+
+module _ {A : Type 0} (Q : A → Type 0) where
+  all-cond : (b : Bool) (x : A) → (T b → Q x) → All Q (cond b (x ∷ []) [])
+  all-cond true x h = (h tt, tt)
+  all-cond false x h = tt
+
+  cond-all : (b : Bool) (x : A) → All Q (cond b (x ∷ []) []) → T b → Q x
+  cond-all true x h t = h .0
+  cond-all false x h t = absurd t
+
+  -- each that is picked has the property
+  pub all-picked : (n : ℕ) (b : ℕ → Bool) (f : ℕ → A) → ((i : ℕ) → i < n → T (b i) → Q (f i)) → All Q (picked n b (λ i. f i ∷ []))
+  unfolding picked joinTo
+  all-picked zero b f h = tt
+  all-picked (suc n) b f h =
+      all-append Q (picked n b (λ i. f i ∷ [])) (cond (b n) (f n ∷ []) [])
+      (all-picked n b f (λ i l. h i (omega arith))) (all-cond (b n) (f n) (h n (lt-suc-self n)))
+
+  -- and where each member of the list has it, each that is picked has
+  pub picked-all : (n : ℕ) (b : ℕ → Bool) (f : ℕ → A) → All Q (picked n b (λ i. f i ∷ [])) → (i : ℕ) → i < n → T (b i) → Q (f i)
+  unfolding picked joinTo
+  picked-all zero b f h i l t = absurd (not-suc-le-zero l)
+  picked-all (suc n) b f h i l t =
+      let first : List A = picked n b (λ i. f i ∷ []) in
+      let last : List A = cond (b n) (f n ∷ []) [] in
+      ⊎-elim
+      (λ e. subst (λ (j : ℕ). Q (f j)) (sym e) (cond-all (b n) (f n) (all-right Q first last h) (subst (λ (j : ℕ). T (b j)) e t)))
+      (λ c. picked-all n b f (all-left Q first last h) i c t)
+      (eq-or-lt-of-le (le-of-suc-le-suc l))
+
+-- how many are picked
+pub length-picked : {A : Type 0} (n : ℕ) (b : ℕ → Bool) (f : ℕ → A) → length (picked n b (λ i. f i ∷ [])) ≡ howMany n b
+unfolding picked joinTo howMany sumTo
+length-picked zero b f = refl
+length-picked (suc n) b f =
+    length-append (picked n b (λ i. f i ∷ [])) (cond (b n) (f n ∷ []) []) ∙ ap₂ _+_ (length-picked n b f) (one (b n))
+  where
+    one : (c : Bool) → length (cond c (f n ∷ []) []) ≡ cond c 1 0
+    one true = refl
+    one false = refl
+
+-- all of them
+pub many-all : (n : ℕ) → howMany n (λ _. true) ≡ n
+unfolding howMany sumTo
+many-all zero = refl
+many-all (suc n) = omega (arith, many-all n)
+
+-- numbers below q
+pub vector-picked : (q n : ℕ) (b : ℕ → Bool) (f : ℕ → ℕ) → ((i : ℕ) → i < n → T (b i) → f i < q) → Vector q (howMany n b) (picked n b (λ i. f i ∷ []))
+vector-picked q n b f h =
+    let l : List ℕ = picked n b (λ i. f i ∷ []) in
+    record {
+      size = length-picked n b f;
+      small = λ i k. all-at (λ x. x < q) l (all-picked (λ x. x < q) n b f h) i (subst (λ (z : ℕ). i < z) (sym (length-picked n b f)) k) 0;
+    }
+
+-- a function of each that is picked
+pub map-picked : {A B : Type 0} (n : ℕ) (b : ℕ → Bool) (h : A → B) (f : ℕ → A) → map h (picked n b (λ i. f i ∷ [])) ≡ picked n b (λ i. h (f i) ∷ [])
+unfolding picked joinTo
+map-picked zero b h f = refl
+map-picked (suc n) b h f =
+    map-append h (picked n b (λ i. f i ∷ [])) (cond (b n) (f n ∷ []) []) ∙ ap₂ _++_ (map-picked n b h f) (one (b n))
+  where
+    one : (c : Bool) → map h (cond c (f n ∷ []) []) ≡ cond c (h (f n) ∷ []) []
+    one true = refl
+    one false = refl
+
+append-inj : {A : Type 0} (a b c d : List A) → length a ≡ length c → a ++ b ≡ c ++ d → (a ≡ c) × (b ≡ d)
+append-inj [] b [] d h e = (refl, e)
+append-inj [] b (z ∷ c) d h e = absurd (suc-ne-zero (length c) (sym h))
+append-inj (x ∷ a) b [] d h e = absurd (suc-ne-zero (length a) h)
+append-inj (x ∷ a) b (z ∷ c) d h e =
+    let (r, s) = append-inj a b c d (suc-inj h) (tail-eq-of-cons-eq e) in
+    (ap₂ _∷_ (head-eq-of-cons-eq e) r, s)
+
+-- where the lists are equal, so are those that are picked
+pub picked-inj : {A : Type 0} (n : ℕ) (b : ℕ → Bool) (f g : ℕ → A) → picked n b (λ i. f i ∷ []) ≡ picked n b (λ i. g i ∷ [])
+    → (i : ℕ) → i < n → T (b i) → f i ≡ g i
+unfolding picked joinTo
+picked-inj zero b f g e i l t = absurd (not-suc-le-zero l)
+picked-inj (suc n) b f g e i l t =
+    let (first, last) = append-inj (picked n b (λ i. f i ∷ [])) (cond (b n) (f n ∷ []) []) (picked n b (λ i. g i ∷ [])) (cond (b n) (g n ∷ []) [])
+    (length-picked n b f ∙ sym (length-picked n b g)) e in
+    ⊎-elim
+    (λ c. subst (λ (j : ℕ). f j ≡ g j) (sym c) (one (b n) last (subst (λ (j : ℕ). T (b j)) c t)))
+    (λ c. picked-inj n b f g first i c t)
+    (eq-or-lt-of-le (le-of-suc-le-suc l))
+  where
+    one : (c : Bool) → cond c (f n ∷ []) [] ≡ cond c (g n ∷ []) [] → T c → f n ≡ g n
+    one true h s = head-eq-of-cons-eq h
+    one false h s = absurd s

@@ -1,0 +1,73 @@
+-- The rows of a key table that decide whether a pair of coalition and observer leaks: those of the coalition, and those that the observer watches.
+use Prim.Native.Nat.{ℕ, zero, suc, _+_, _*_, _%_, _<_}
+use mathlib.Core.Path.{_≡_}
+use mathlib.Core.Bool.{Bool, not, _&&_}
+use mathlib.Core.List.{List, [], _∷_}
+use lib.Dec.{ltb}
+use Rattle.arithmetic.specs.Search.{anyTo, allTo}
+use Rattle.arithmetic.specs.Primes.{Prime}
+use Rattle.arithmetic.proofs.PrimeLaws.{prime-pos}
+use Rattle.matrices.specs.Linear.{at, All, Vector, reduce}
+use Rattle.matrices.proofs.Vectors.{vector-reduce}
+use Rattle.secrecy.specs.Lists.{tab, picked}
+use Rattle.secrecy.specs.Counts.{sumTo}
+use Rattle.secrecy.specs.Model.{Pool, users, inCoalition, inCluster}
+use Rattle.secrecy.proofs.ListLaws.{tab-vector, entry-below, all-picked}
+use Rattle.secrecy.proofs.Units.{addTo, length-addTo}
+
+module _ (P : Pool) where
+  -- the row of user i, and the sum of the rows of cluster u
+  abbrev pub row : ℕ → List ℕ
+  row i = tab (P .rate) (λ k. at (P .table) (i * P .rate + k))
+
+  abbrev pub sumRow : ℕ → List ℕ
+  sumRow u = reduce (P .q) (addTo (P .rate) (P .size) (λ v. row (u * P .size + v)))
+
+  -- the rows of the coalition
+  abbrev pub coalitionRows : ℕ → List (List ℕ)
+  coalitionRows g = picked (users P) (inCoalition g) (λ i. row i ∷ [])
+
+  -- the rows sum to 0, column by column
+  abbrev pub ZeroSum : Type 0
+  ZeroSum = (k : ℕ) → k < P .rate → sumTo (users P) (λ i. at (P .table) (i * P .rate + k)) % P .q ≡ 0
+
+  -- a user that b picks and that is not in the coalition
+  unfoldable pub outside : (ℕ → Bool) → ℕ → ℕ → Bool
+  outside b g i = b i && not (inCoalition g i)
+
+  -- a cluster with a user that is not in the coalition, and such a cluster with another after it
+  unfoldable pub opened : ℕ → ℕ → Bool
+  opened g u = not (allTo (P .size) (λ v. inCoalition g (u * P .size + v)))
+
+  unfoldable pub tested : ℕ → ℕ → Bool
+  tested g u = opened g u && anyTo (P .clusters) (λ w. ltb u w && opened g w)
+
+  -- what the server watches: the sum rows of those clusters; a relay: the rows of its users outside the coalition
+  abbrev pub watchedRows : ℕ → ℕ → List (List ℕ)
+  watchedRows g zero = picked (P .clusters) (tested g) (λ u. sumRow u ∷ [])
+  watchedRows g (suc u) = picked (users P) (outside (inCluster P u) g) (λ i. row i ∷ [])
+
+-- ---- they have `rate` numbers below q each
+
+module _ (P : Pool) (prime : Prime (P .q)) (valid : Vector (P .q) (users P * P .rate) (P .table)) where
+  -- a user's row
+  pub row-vector : (i : ℕ) → Vector (P .q) (P .rate) (row P i)
+  row-vector i =
+      tab-vector (P .q) (P .rate) (λ k. at (P .table) (i * P .rate + k))
+      (λ k l. entry-below (P .q) (users P * P .rate) (P .table) (prime-pos prime) valid (i * P .rate + k))
+
+  -- a cluster's sum row
+  pub sum-row-vector : (u : ℕ) → Vector (P .q) (P .rate) (sumRow P u)
+  sum-row-vector u =
+      vector-reduce (P .q) (P .rate) (addTo (P .rate) (P .size) (λ v. row P (u * P .size + v))) (prime-pos prime)
+      (length-addTo (P .rate) (P .size) (λ v. row P (u * P .size + v)) (λ v. row-vector (u * P .size + v) .size))
+
+  -- the coalition's rows
+  pub coalition-vectors : (g : ℕ) → All (Vector (P .q) (P .rate)) (coalitionRows P g)
+  coalition-vectors g = all-picked (Vector (P .q) (P .rate)) (users P) (inCoalition g) (row P) (λ i l t. row-vector i)
+
+  -- the rows that an observer watches
+  pub watched-vectors : (g w : ℕ) → All (Vector (P .q) (P .rate)) (watchedRows P g w)
+  watched-vectors g zero = all-picked (Vector (P .q) (P .rate)) (P .clusters) (tested P g) (sumRow P) (λ u l t. sum-row-vector u)
+  watched-vectors g (suc u) =
+      all-picked (Vector (P .q) (P .rate)) (users P) (outside P (inCluster P u) g) (row P) (λ i l t. row-vector i)

@@ -1,0 +1,69 @@
+-- An observer of the uploads of some users, as a relay is: it leaks just where the row of one of them, outside the coalition, depends on the
+-- coalition's rows and those of such users before it.
+use Prim.Native.Nat.{ℕ, _*_, _<_}
+use mathlib.Core.Path.{_≡_, _∙_}
+use mathlib.Core.Bool.{Bool, not}
+use mathlib.Core.Logic.{_⊎_}
+use mathlib.Core.List.{List, [], _∷_}
+use native.Mathlib.Omega.{arith}
+use lib.Dec.{T, T-not, not-T}
+use Rattle.arithmetic.specs.Primes.{Prime}
+use Rattle.arithmetic.proofs.Searches.{T-and, and-T, T-decide}
+use Rattle.arithmetic.proofs.Congruence.{of-eq}
+use Rattle.matrices.specs.Linear.{All, Vector, dot, Independent}
+use Rattle.secrecy.specs.Lists.{picked}
+use Rattle.secrecy.specs.Model.{Pool, users, inCoalition, setView}
+use Rattle.secrecy.specs.Leaks.{Leak, Symbols, Agree}
+use Rattle.secrecy.proofs.Units.{unit, dot-unit, at-unit-same, at-unit-other}
+use Rattle.secrecy.proofs.Forms.{Unseen, MakesUp}
+use Rattle.secrecy.proofs.Readings.{Enough}
+use Rattle.secrecy.proofs.RankCondition.{row, coalitionRows, outside, row-vector}
+use Rattle.secrecy.proofs.PoolForms.{upForm, units, set-forms}
+use Rattle.secrecy.proofs.Coalitions.{unit-unseen, member-made}
+use Rattle.secrecy.proofs.Observers.{Observer, Telling, observer-keeps, observer-either}
+
+module _ (P : Pool) (prime : Prime (P .q)) (valid : Vector (P .q) (users P * P .rate) (P .table)) (b : ℕ → Bool) (g : ℕ) where
+  set-observer : Observer P g (units P g) (users P) b (outside P b g) (upForm P)
+  unfolding outside
+  set-observer =
+      record {
+        sources = row-vector P prime valid;
+        shown = λ i t. T-and (b i) (not (inCoalition g i)) t .0;
+        members = λ d un. un;
+        others = λ d N un none hits i l t. go d N un none hits i l t (T-decide (inCoalition g i));
+      }
+    where
+      go : (d N : List ℕ) → Unseen (P .q) (units P g) d → All (λ r. dot (P .q) r N ≡ 0) (coalitionRows P g)
+          → ((i : ℕ) → i < users P → T (outside P b g i) → MakesUp (P .q) d N (upForm P i))
+          → (i : ℕ) → i < users P → T (b i) → Dec (T (inCoalition g i)) → MakesUp (P .q) d N (upForm P i)
+      go d N un none hits i l t (yes c) = member-made P g d N un none i l c
+      go d N un none hits i l t (no c) = hits i l (and-T (b i) (not (inCoalition g i)) t (not-T (inCoalition g i) c))
+
+  -- the unit of a user tells of its upload
+  telling : (readings : ℕ → List ℕ → Type 0) → Enough (P .q) (users P) readings → (i : ℕ) → i < users P → T (outside P b g i)
+      → Telling P readings (units P g) (outside P b g) (upForm P) i
+  unfolding outside
+  telling readings en i l t =
+      record {
+        d = unit (users P) i;
+        chosen = en .one i l;
+        unseen = unit-unseen P g i (T-not (inCoalition g i) (T-and (b i) (not (inCoalition g i)) t .1));
+        one = of-eq (dot-unit (users P) i (unit (users P) i) l ∙ at-unit-same (users P) i l);
+        before = λ j c s. of-eq (dot-unit (users P) j (unit (users P) i) (omega arith) ∙ at-unit-other (users P) i j (omega arith));
+      }
+
+  module _ (readings : ℕ → List ℕ → Type 0) where
+    -- where the rows are independent nothing leaks, among any readings
+    pub set-keeps : ((L : ℕ) (W : List ℕ) → readings L W → Symbols (P .q) (users P) L W)
+        → Independent (P .q) (P .rate) (coalitionRows P g) (picked (users P) (outside P b g) (λ i. row P i ∷ []))
+        → ¬ (Leak (P .q) (P .rate) readings (Agree P g) (setView P b g))
+    set-keeps =
+        observer-keeps P prime valid g (units P g) (users P) b (outside P b g) (upForm P) set-observer (Agree P g) (setView P b g) (set-forms P b g) readings
+
+    -- they are independent, or there is a leak, among any readings that are enough
+    pub set-either : Enough (P .q) (users P) readings
+        → Independent (P .q) (P .rate) (coalitionRows P g) (picked (users P) (outside P b g) (λ i. row P i ∷ []))
+        ⊎ Leak (P .q) (P .rate) readings (Agree P g) (setView P b g)
+    set-either en =
+        observer-either P prime valid g (units P g) (users P) b (outside P b g) (upForm P) set-observer (Agree P g) (setView P b g) (set-forms P b g)
+        readings (en .symbols) (en .none) (telling readings en)

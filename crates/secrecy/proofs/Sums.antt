@@ -1,0 +1,110 @@
+-- Laws of sums, as numbers and modulo q.
+use Prim.Native.Nat.{ℕ, zero, suc, _+_, _-_, _*_, _%_, _≤_, _<_}
+use mathlib.Core.Path.{_≡_, refl, sym, ap, ap₂, _∙_, subst}
+use mathlib.Core.Logic.{_≢_, ⊎-elim}
+use native.Mathlib.Nat.{add-zero, add-suc, add-assoc, add-comm, mod-eq-of-lt, add-mod-left, zero-mul, suc-mul}
+use native.Mathlib.Nat.{lt-suc-self, eq-or-lt-of-le, le-of-suc-le-suc, not-suc-le-zero}
+use native.Mathlib.Omega.{arith}
+use Rattle.arithmetic.proofs.Congruence.{Cong, c-refl, c-add}
+use Rattle.secrecy.specs.Counts.{sumTo}
+
+-- equal summands have equal sums
+pub sum-cong : (n : ℕ) (f g : ℕ → ℕ) → ((k : ℕ) → k < n → f k ≡ g k) → sumTo n f ≡ sumTo n g
+unfolding sumTo
+sum-cong zero f g h = refl
+sum-cong (suc n) f g h = ap₂ _+_ (sum-cong n f g (λ k l. h k (omega arith))) (h n (lt-suc-self n))
+
+-- summands that are 0 have the sum 0
+pub sum-zero : (n : ℕ) (f : ℕ → ℕ) → ((k : ℕ) → k < n → f k ≡ 0) → sumTo n f ≡ 0
+unfolding sumTo
+sum-zero zero f h = refl
+sum-zero (suc n) f h = ap₂ _+_ (sum-zero n f (λ k l. h k (omega arith))) (h n (lt-suc-self n))
+
+-- a summand is at most the sum
+pub sum-le : (n : ℕ) (f : ℕ → ℕ) (k : ℕ) → k < n → f k ≤ sumTo n f
+unfolding sumTo
+sum-le zero f k h = absurd (not-suc-le-zero h)
+sum-le (suc n) f k h =
+    ⊎-elim
+    (λ e. rw e (omega arith))
+    (λ l. omega (arith, sum-le n f k l))
+    (eq-or-lt-of-le (le-of-suc-le-suc h))
+
+-- the first a summands, and the b after them
+sum-split : (a b : ℕ) (f : ℕ → ℕ) → sumTo (a + b) f ≡ sumTo a f + sumTo b (λ k. f (a + k))
+unfolding sumTo
+sum-split a zero f = simp add-zero
+sum-split a (suc b) f = rw add-suc (ap (λ (s : ℕ). s + f (a + b)) (sum-split a b f) ∙ add-assoc (sumTo a f) (sumTo b (λ k. f (a + k))) (f (a + b)))
+
+-- a sum over all symbols, each moved by c modulo q, is the sum over all symbols
+pub sum-shift : (q c : ℕ) (f : ℕ → ℕ) → c < q → sumTo q (λ x. f ((x + c) % q)) ≡ sumTo q f
+sum-shift q c f h =
+    let d : ℕ = q - c in
+    let e : d + c ≡ q = omega arith in
+    let e′ : c + d ≡ q = omega arith in
+    let g : ℕ → ℕ = λ x. f ((x + c) % q) in
+    let low : sumTo d g ≡ sumTo d (λ k. f (c + k)) = sum-cong d g (λ k. f (c + k)) (λ k l. ap f (mod-eq-of-lt (omega arith) ∙ add-comm k c)) in
+    let high : sumTo c (λ k. g (d + k)) ≡ sumTo c f
+    = sum-cong c (λ k. g (d + k)) f (λ k l. ap f (ap (λ (z : ℕ). z % q) (omega arith) ∙ add-mod-left q k ∙ mod-eq-of-lt (omega arith))) in
+    ap (λ (n : ℕ). sumTo n g) (sym e)
+    ∙ sum-split d c g
+    ∙ ap₂ _+_ low high
+    ∙ add-comm (sumTo d (λ k. f (c + k))) (sumTo c f)
+    ∙ sym (sum-split c d f)
+    ∙ ap (λ (n : ℕ). sumTo n f) e′
+
+-- the sum of sums of two
+pub sum-add : (n : ℕ) (f g : ℕ → ℕ) → sumTo n (λ k. f k + g k) ≡ sumTo n f + sumTo n g
+unfolding sumTo
+sum-add zero f g = refl
+sum-add (suc n) f g = omega (arith, sum-add n f g)
+
+-- m groups of n
+pub sum-grid : (m n : ℕ) (f : ℕ → ℕ) → sumTo (m * n) f ≡ sumTo m (λ u. sumTo n (λ v. f (u * n + v)))
+unfolding sumTo
+sum-grid zero n f = ap (λ (k : ℕ). sumTo k f) (zero-mul n)
+sum-grid (suc m) n f =
+    ap (λ (k : ℕ). sumTo k f) (suc-mul m n)
+    ∙ sum-split (m * n) n f
+    ∙ ap (λ (s : ℕ). s + sumTo n (λ v. f (m * n + v))) (sum-grid m n f)
+
+-- the first summand by itself
+pub sum-front : (n : ℕ) (f : ℕ → ℕ) → sumTo (suc n) f ≡ f 0 + sumTo n (λ k. f (suc k))
+unfolding sumTo
+sum-front zero f = omega arith
+sum-front (suc n) f = omega (arith, sum-front n f)
+
+-- a 1 at k, and 0 elsewhere
+pub sum-one : (n : ℕ) (f : ℕ → ℕ) (k : ℕ) → k < n → f k ≡ 1 → ((i : ℕ) → i < n → i ≢ k → f i ≡ 0) → sumTo n f ≡ 1
+unfolding sumTo
+sum-one zero f k h e z = absurd (not-suc-le-zero h)
+sum-one (suc n) f k h e z =
+    ⊎-elim
+    (λ c. ap₂ _+_ (sum-zero n f (λ i l. z i (omega arith) (omega arith))) (ap f (sym c) ∙ e))
+    (λ c. ap₂ _+_ (sum-one n f k c e (λ i l. z i (omega arith))) (z n (lt-suc-self n) (omega arith)))
+    (eq-or-lt-of-le (le-of-suc-le-suc h))
+
+-- ---- modulo q
+
+module _ {q : ℕ} where
+  -- congruent summands have congruent sums
+  pub sum-c : (n : ℕ) (f g : ℕ → ℕ) → ((i : ℕ) → i < n → Cong q (f i) (g i)) → Cong q (sumTo n f) (sumTo n g)
+  unfolding sumTo
+  sum-c zero f g h = c-refl
+  sum-c (suc n) f g h = c-add (sum-c n f g (λ i l. h i (omega arith))) (h n (lt-suc-self n))
+
+  c-cancel : {a b x y : ℕ} → Cong q a b → Cong q (a + x) (b + y) → Cong q x y
+  c-cancel c e = record { up = e .up + c .dn; dn = e .dn + c .up; eq = omega arith }
+
+  c-cancel-right : {a b x y : ℕ} → Cong q x y → Cong q (a + x) (b + y) → Cong q a b
+  c-cancel-right c e = record { up = e .up + c .dn; dn = e .dn + c .up; eq = omega arith }
+
+  -- where the sums are congruent, and all summands but one, that one is too
+  pub sum-left : (n : ℕ) (f g : ℕ → ℕ) (k : ℕ) → k < n → ((i : ℕ) → i < n → i ≢ k → Cong q (f i) (g i)) → Cong q (sumTo n f) (sumTo n g) → Cong q (f k) (g k)
+  unfolding sumTo
+  sum-left zero f g k h others all = absurd (not-suc-le-zero h)
+  sum-left (suc n) f g k h others all =
+      ⊎-elim
+      (λ e. subst (λ (j : ℕ). Cong q (f j) (g j)) (sym e) (c-cancel (sum-c n f g (λ i l. others i (omega arith) (omega arith))) all))
+      (λ c. sum-left n f g k c (λ i l. others i (omega arith)) (c-cancel-right (others n (lt-suc-self n) (omega arith)) all))
+      (eq-or-lt-of-le (le-of-suc-le-suc h))

@@ -1,0 +1,102 @@
+-- When a pair of coalition and observer leaks. The test by search and the record agree; and the pair leaks nothing just where the rows that the
+-- observer watches are independent over the coalition's, that is, where the ranks add up.
+use Prim.Native.Nat.{ℕ, zero, suc, _+_, _*_, _≤_}
+use mathlib.Core.Path.{_≡_}
+use mathlib.Core.Logic.{_⊎_, ⊎-elim, _↔_, Dec·not-not}
+use mathlib.Core.List.{List, [], _++_}
+use native.Mathlib.Decide.{ℕ-discrete}
+use native.Mathlib.Omega.{arith}
+use lib.ListN.{length}
+use lib.Dec.{T}
+use Rattle.arithmetic.specs.Primes.{Prime}
+use Rattle.arithmetic.proofs.PrimeLaws.{prime-pos}
+use Rattle.matrices.specs.Linear.{Vector, Independent}
+use Rattle.matrices.specs.Rank.{rankOver, rankOf}
+use Rattle.matrices.proofs.RankLaws.{rank-append, full-rank-iff}
+use Rattle.secrecy.specs.Model.{Pool, users, inCluster, view}
+use Rattle.secrecy.specs.Leaks.{number, leaks, Symbols, Leak, Agrees, PairLeak}
+use Rattle.secrecy.proofs.Readings.{Enough, symbols-enough, small-enough}
+use Rattle.secrecy.proofs.Relays.{set-keeps, set-either}
+use Rattle.secrecy.proofs.Server.{server-keeps, server-either}
+use Rattle.secrecy.proofs.LeakTest.{search-iff}
+pub use Rattle.secrecy.proofs.Readings.{Small}
+pub use Rattle.secrecy.proofs.RankCondition.{row, sumRow, coalitionRows, outside, opened, tested, ZeroSum, watchedRows}
+pub use Rattle.secrecy.proofs.RankCondition.{row-vector, sum-row-vector, coalition-vectors, watched-vectors}
+
+-- one or the other, and not both
+just-where : {A B : Type 0} → A ⊎ B → (A → ¬ B) → (¬ B) ↔ A
+just-where e f = ((λ n. ⊎-elim (λ a. a) (λ b. absurd (n b)) e), f)
+
+module _ (P : Pool) (prime : Prime (P .q)) (valid : Vector (P .q) (users P * P .rate) (P .table)) where
+  -- the search finds a leak just where there is one
+  pub leaks-iff : (g w : ℕ) → T (leaks P g w) ↔ PairLeak P g w
+  leaks-iff = search-iff P (prime-pos prime)
+
+  -- ---- among any readings that are enough
+
+  module _ (readings : ℕ → List ℕ → Type 0) (en : Enough (P .q) (users P) readings) where
+    -- the watched rows are independent over the coalition's, or there is a leak
+    pair-either : ZeroSum P → (g w : ℕ) → Independent (P .q) (P .rate) (coalitionRows P g) (watchedRows P g w)
+        ⊎ Leak (P .q) (P .rate) readings (Agrees P g w) (view P g w)
+    pair-either zs g zero = server-either P prime valid zs g readings en
+    pair-either zs g (suc u) = set-either P prime valid (inCluster P u) g readings en
+
+    pair-keeps : ZeroSum P → (g w : ℕ) → Independent (P .q) (P .rate) (coalitionRows P g) (watchedRows P g w)
+        → ¬ (Leak (P .q) (P .rate) readings (Agrees P g w) (view P g w))
+    pair-keeps zs g zero = server-keeps P prime valid zs g readings (en .symbols)
+    pair-keeps zs g (suc u) = set-keeps P prime valid (inCluster P u) g readings (en .symbols)
+
+    -- an observer leaks nothing just where the rows that it watches are independent over the coalition's
+    pub enough-iff : ZeroSum P → (g w : ℕ) → (¬ (Leak (P .q) (P .rate) readings (Agrees P g w) (view P g w)))
+        ↔ Independent (P .q) (P .rate) (coalitionRows P g) (watchedRows P g w)
+    enough-iff zs g w = just-where (pair-either zs g w) (pair-keeps zs g w)
+
+  -- ---- among all symbols
+
+  abbrev every : ℕ → List ℕ → Type 0
+  every = Symbols (P .q) (users P)
+
+  every-enough : Enough (P .q) (users P) every
+  every-enough = symbols-enough (P .q) (users P) (prime .two)
+
+  -- a relay, for a table that need not sum to 0
+  pub relay-iff : (g u : ℕ) → (¬ (PairLeak P g (suc u))) ↔ Independent (P .q) (P .rate) (coalitionRows P g) (watchedRows P g (suc u))
+  relay-iff g u =
+      just-where (set-either P prime valid (inCluster P u) g every every-enough) (set-keeps P prime valid (inCluster P u) g every (every-enough .symbols))
+
+  -- a relay or the server
+  pub pair-iff : ZeroSum P → (g w : ℕ) → (¬ (PairLeak P g w)) ↔ Independent (P .q) (P .rate) (coalitionRows P g) (watchedRows P g w)
+  pair-iff = enough-iff every every-enough
+
+  -- the server
+  pub server-iff : ZeroSum P → (g : ℕ) → (¬ (PairLeak P g 0)) ↔ Independent (P .q) (P .rate) (coalitionRows P g) (watchedRows P g 0)
+  server-iff zs g = pair-iff zs g 0
+
+  -- the same by ranks: all the rows together have the coalition's rank, and 1 more for each row that is watched
+  pub pair-rank : ZeroSum P → (g w : ℕ) → (¬ (PairLeak P g w)) ↔ (rankOf (P .q) (P .rate) (coalitionRows P g ++ watchedRows P g w)
+      ≡ rankOf (P .q) (P .rate) (coalitionRows P g) + length (watchedRows P g w))
+  pair-rank zs g w =
+      let G : List (List ℕ) = coalitionRows P g in
+      let C : List (List ℕ) = watchedRows P g w in
+      let sum : rankOf (P .q) (P .rate) (G ++ C) ≡ rankOf (P .q) (P .rate) G + rankOver (P .q) (P .rate) G C = rank-append (P .q) (P .rate) [] G C in
+      let full : (rankOver (P .q) (P .rate) G C ≡ length C) ↔ Independent (P .q) (P .rate) G C
+      = full-rank-iff (P .q) (P .rate) (prime-pos prime) G C (coalition-vectors P prime valid g) (watched-vectors P prime valid g w) in (
+        (λ quiet. omega (arith, full .1 (pair-iff zs g w .0 quiet))),
+        (λ e. pair-iff zs g w .1 (full .0 (omega arith))),
+      )
+
+  -- ---- what it means
+
+  -- a pair that does not leak has equal numbers, for all readings that agree and every view
+  pub equal-numbers : (g w : ℕ) → ¬ (PairLeak P g w) → (L : ℕ) → 1 ≤ L → L ≤ 64
+      → (W W′ : List ℕ) → Symbols (P .q) (users P) L W → Symbols (P .q) (users P) L W′ → Agrees P g w L W W′
+      → (s : List ℕ) → number (P .q) (P .rate) (view P g w) L W s ≡ number (P .q) (P .rate) (view P g w) L W′ s
+  equal-numbers g w quiet L low high W W′ v v′ a s =
+      Dec·not-not (ℕ-discrete (number (P .q) (P .rate) (view P g w) L W s) (number (P .q) (P .rate) (view P g w) L W′ s)) .0
+      (λ n. quiet (record { L = L; low = low; high = high; W = W; W′ = W′; W-in = v; W′-in = v′; same = a; s = s; unequal = n }))
+
+  -- a pair that leaks does so in one position, with no other readings than 0, 1 and q - 1
+  pub small-leak : ZeroSum P → (g w : ℕ) → PairLeak P g w → Leak (P .q) (P .rate) (Small (P .q) (users P)) (Agrees P g w) (view P g w)
+  small-leak zs g w k =
+      ⊎-elim (λ i. absurd (pair-keeps every every-enough zs g w i k)) (λ s. s)
+      (pair-either (Small (P .q) (users P)) (small-enough (P .q) (users P) (prime .two)) zs g w)

@@ -1,0 +1,84 @@
+-- When a pair of coalition and observer leaks: by literal counts of source keys, with no condition on ranks. Once as a test by finite search, and
+-- once as a record that names what the search finds.
+use Prim.Native.Nat.{ℕ, zero, suc, _+_, _*_, _≤_, _<_}
+use mathlib.Core.Path.{_≡_}
+use mathlib.Core.Logic.{_≢_}
+use mathlib.Core.Bool.{Bool, not, _&&_, _||_}
+use mathlib.Core.List.{List}
+use lib.Dec.{T, eqb}
+use Rattle.arithmetic.specs.Search.{anyTo, allTo}
+use Rattle.matrices.specs.Linear.{Vector}
+use Rattle.matrices.specs.Rank.{anyList, sameList}
+use Rattle.secrecy.specs.Counts.{count, howMany}
+use Rattle.secrecy.specs.Model.{Pool, users, inCoalition, inCluster, reading, total, view}
+
+-- among all source keys of L positions, n symbols each, how many show s under the readings W
+unfoldable pub number : (q n : ℕ) → (ℕ → List ℕ → List ℕ → List ℕ) → ℕ → List ℕ → List ℕ → ℕ
+number q n see L W s = count q (L * n) (λ N. sameList (see L W N) s)
+
+-- ---- as a test
+
+module _ (P : Pool) where
+  -- do two sets of readings agree on the coalition's members, and on the totals?
+  unfoldable pub membersAgree : ℕ → ℕ → List ℕ → List ℕ → Bool
+  membersAgree g L W W′ = allTo (users P) (λ i. not (inCoalition g i) || allTo L (λ p. eqb (reading L W i p) (reading L W′ i p)))
+
+  unfoldable pub totalsAgree : ℕ → List ℕ → List ℕ → Bool
+  totalsAgree L W W′ = allTo L (λ p. eqb (total P L W p) (total P L W′ p))
+
+  -- as an observer asks
+  abbrev pub agree : ℕ → ℕ → ℕ → List ℕ → List ℕ → Bool
+  agree g zero L W W′ = membersAgree g L W W′ && totalsAgree L W W′
+  agree g (suc u) L W W′ = membersAgree g L W W′
+
+  -- how many symbols a view has
+  abbrev pub places : ℕ → ℕ → ℕ → ℕ
+  places g zero L = (P .clusters + (howMany (users P) (inCoalition g) + howMany (users P) (inCoalition g))) * L
+  places g (suc u) L = (howMany (users P) (inCluster P u) + (howMany (users P) (inCoalition g) + howMany (users P) (inCoalition g))) * L
+
+  -- two sets of readings that agree, and a view, shown by some source key or by none, with unequal numbers
+  unfoldable pub leaksAt : ℕ → ℕ → ℕ → Bool
+  leaksAt g w L =
+      anyList (P .q) (users P * L) (λ W.
+      anyList (P .q) (users P * L) (λ W′.
+      agree g w L W W′
+      && anyList (P .q) (places g w L) (λ s. not (eqb (number (P .q) (P .rate) (view P g w) L W s) (number (P .q) (P .rate) (view P g w) L W′ s)))))
+
+  -- for some L from 1 to 64
+  unfoldable pub leaks : ℕ → ℕ → Bool
+  leaks g w = anyTo 64 (λ l. leaksAt g w (suc l))
+
+-- ---- as a record
+
+-- L symbols below q for each of m users
+abbrev pub Symbols : (q m L : ℕ) → List ℕ → Type 0
+Symbols q m L W = Vector q (m * L) W
+
+-- two sets of readings, among those in question, that agree and have unequal numbers for some view
+pub record Leak (q n : ℕ) (readings : ℕ → List ℕ → Type 0) (agrees : ℕ → List ℕ → List ℕ → Type 0) (see : ℕ → List ℕ → List ℕ → List ℕ) : Type 0 where
+  pub L : ℕ
+  pub low : 1 ≤ L
+  pub high : L ≤ 64
+  pub W : List ℕ
+  pub W′ : List ℕ
+  pub W-in : readings L W
+  pub W′-in : readings L W′
+  pub same : agrees L W W′
+  pub s : List ℕ
+  pub unequal : number q n see L W s ≢ number q n see L W′ s
+
+module _ (P : Pool) where
+  pub record Agree (g L : ℕ) (W W′ : List ℕ) : Type 0 where
+    pub members : (i p : ℕ) → i < users P → T (inCoalition g i) → p < L → reading L W i p ≡ reading L W′ i p
+
+  pub record ServerAgree (g L : ℕ) (W W′ : List ℕ) : Type 0 where
+    pub members : (i p : ℕ) → i < users P → T (inCoalition g i) → p < L → reading L W i p ≡ reading L W′ i p
+    pub totals : (p : ℕ) → p < L → total P L W p ≡ total P L W′ p
+
+  abbrev pub Agrees : ℕ → ℕ → ℕ → List ℕ → List ℕ → Type 0
+  Agrees g zero = ServerAgree g
+  Agrees g (suc u) = Agree g
+
+  -- the pair of coalition g and observer w leaks
+  abbrev pub PairLeak : ℕ → ℕ → Type 0
+  PairLeak g w = Leak (P .q) (P .rate) (Symbols (P .q) (users P)) (Agrees g w) (view P g w)

@@ -1,0 +1,19 @@
+-- Lists made of their entries, and lists one after the other.
+use Prim.Native.Nat.{ℕ, zero, suc}
+use mathlib.Core.Bool.{Bool, cond}
+use mathlib.Core.List.{List, [], _∷_, _++_}
+
+-- f 0, f 1, .., f (n - 1)
+unfoldable pub tab : ℕ → (ℕ → ℕ) → List ℕ
+tab zero f = []
+tab (suc n) f = f 0 ∷ tab n (λ k. f (suc k))
+
+-- the lists f 0, f 1, .., f (n - 1), one after the other
+unfoldable pub joinTo : {A : Type 0} → ℕ → (ℕ → List A) → List A
+joinTo zero f = []
+joinTo (suc n) f = joinTo n f ++ f n
+
+-- the lists f i of those i below n that b picks
+unfoldable pub picked : {A : Type 0} → ℕ → (ℕ → Bool) → (ℕ → List A) → List A
+unfolding joinTo
+picked n b f = joinTo n (λ i. cond (b i) (f i) [])

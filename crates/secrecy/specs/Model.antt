@@ -1,0 +1,75 @@
+-- The equations of source document 000, and what each observer sees. Users, clusters and positions count from 0; an observer is document 01's
+-- number: 0 for the server (document 01: desk), u for relay u (gateway). Readings of L positions stand user by user, L symbols each; a source key
+-- (key block) stands position by position, `rate` symbols each.
+use Prim.Native.Nat.{ℕ, zero, suc, _+_, _*_, _/_, _%_, _^_}
+use mathlib.Core.Bool.{Bool}
+use mathlib.Core.List.{List, _++_}
+use lib.Dec.{eqb}
+use Rattle.matrices.specs.Linear.{at}
+use Rattle.secrecy.specs.Lists.{tab, joinTo, picked}
+use Rattle.secrecy.specs.Counts.{sumTo}
+
+-- what the equations speak of: clusters of so many users (meters) each, a prime q, and a key table with a row of `rate` symbols for each user
+pub record Pool : Type 0 where
+  pub clusters : ℕ
+  pub size : ℕ
+  pub rate : ℕ
+  pub q : ℕ
+  pub table : List ℕ
+
+-- is user i in the coalition (gang)? Its bit in the coalition's number
+unfoldable pub inCoalition : ℕ → ℕ → Bool
+inCoalition g i = eqb (g / 2 ^ i % 2) 1
+
+-- the reading of user i in position p
+unfoldable pub reading : ℕ → List ℕ → ℕ → ℕ → ℕ
+reading L W i p = at W (i * L + p)
+
+module _ (P : Pool) where
+  abbrev pub users : ℕ
+  users = P .clusters * P .size
+
+  -- is user i in cluster u?
+  unfoldable pub inCluster : ℕ → ℕ → Bool
+  inCluster u i = eqb (i / P .size) u
+
+  -- ---- what is sent
+
+  -- (22): the key of user i in position p is its row times the symbols of that position in the source key N
+  unfoldable pub key : List ℕ → ℕ → ℕ → ℕ
+  key N i p = sumTo (P .rate) (λ k. at (P .table) (i * P .rate + k) * at N (p * P .rate + k)) % P .q
+
+  -- (25)
+  unfoldable pub upload : ℕ → List ℕ → List ℕ → ℕ → ℕ → ℕ
+  upload L W N i p = (reading L W i p + key N i p) % P .q
+
+  -- (26)
+  unfoldable pub relaySum : ℕ → List ℕ → List ℕ → ℕ → ℕ → ℕ
+  relaySum L W N u p = sumTo (P .size) (λ v. upload L W N (u * P .size + v) p) % P .q
+
+  -- the total of a set of readings in position p
+  unfoldable pub total : ℕ → List ℕ → ℕ → ℕ
+  total L W p = sumTo users (λ i. reading L W i p) % P .q
+
+  -- ---- what is seen
+
+  -- for each user that b picks, its L symbols
+  unfoldable pub blocks : (ℕ → Bool) → ℕ → (ℕ → ℕ → ℕ) → List ℕ
+  blocks b L f = picked users b (λ i. tab L (f i))
+
+  -- the coalition's readings and keys
+  unfoldable pub known : ℕ → ℕ → List ℕ → List ℕ → List ℕ
+  known g L W N = blocks (inCoalition g) L (reading L W) ++ blocks (inCoalition g) L (key N)
+
+  -- the uploads of the users that b picks, with what the coalition knows
+  unfoldable pub setView : (ℕ → Bool) → ℕ → ℕ → List ℕ → List ℕ → List ℕ
+  setView b g L W N = blocks b L (upload L W N) ++ known g L W N
+
+  -- all relay sums, with what the coalition knows
+  unfoldable pub serverView : ℕ → ℕ → List ℕ → List ℕ → List ℕ
+  serverView g L W N = joinTo (P .clusters) (λ u. tab L (relaySum L W N u)) ++ known g L W N
+
+  -- the view (sight) of an observer (watcher) with a coalition
+  abbrev pub view : ℕ → ℕ → ℕ → List ℕ → List ℕ → List ℕ
+  view g zero = serverView g
+  view g (suc u) = setView (inCluster u) g

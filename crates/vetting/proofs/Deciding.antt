@@ -1,0 +1,150 @@
+-- The walk's test decides leaking: so the first pair that it finds is the first that leaks.
+use mathlib.Core.Path.{_≡_, refl, sym, ap, ap₂, _∙_, subst}
+use mathlib.Core.Logic.{_↔_, Dec·not-not}
+use mathlib.Core.Bool.{Bool, true, false, cond}
+use mathlib.Core.List.{List, [], _∷_, _++_, map, map-append}
+use Prim.Native.Nat.{ℕ, zero, suc, _+_, _*_, _^_, _≤_, _<_}
+use native.Mathlib.Decide.{decLt}
+use native.Mathlib.Omega.{arith}
+use lib.Dec.{T, leb}
+use lib.ListN.{length}
+use Rattle.refusals.specs.declared.Code.{Code}
+use Rattle.refusals.specs.Codes.{accepted, firstOf}
+use Rattle.arithmetic.specs.Primes.{Prime, allBelow}
+use Rattle.arithmetic.proofs.Searches.{T-ext, T-decide, true→T, false→not-T}
+use Rattle.arithmetic.proofs.PrimeLaws.{prime-pos, below-at}
+use Rattle.matrices.specs.Linear.{All, Vector, Independent}
+use Rattle.matrices.specs.Tables.{rowOf}
+use Rattle.matrices.proofs.Vectors.{all-append, all-map}
+use Rattle.matrices.proofs.Elimination.{Table}
+use Rattle.secrecy.specs.Lists.{tab, joinTo, picked}
+use Rattle.secrecy.specs.Counts.{howMany}
+use Rattle.secrecy.specs.Model.{Pool, users, inCoalition, inCluster}
+use Rattle.secrecy.specs.Leaks.{leaks, PairLeak}
+use Rattle.secrecy.proofs.RankCondition.{outside, tested, row, sumRow, coalitionRows, watchedRows, ZeroSum}
+use Rattle.secrecy.proofs.Verdicts.{leaks-iff, pair-iff}
+use Rattle.vetting.specs.declared.Plan.{Plan}
+use Rattle.vetting.specs.declared.Pair.{Pair}
+use Rattle.vetting.specs.declared.Found.the-variants.{At}
+use Rattle.vetting.specs.Plans.{poolOf, usersOf, inBounds}
+use Rattle.vetting.specs.Walk.{observers, pairs}
+use Rattle.vetting.specs.Verdict.{columnSum, leakCheck}
+use Rattle.vetting.specs.Walking.{baseTable, rowsIn, watchMask, chosen, hit, firstHit, walked, foundCode}
+use Rattle.vetting.proofs.BitLaws.{bit-above}
+use Rattle.vetting.proofs.PlanBounds.{Bounds, bounds-known}
+use Rattle.vetting.proofs.PickedLaws.{picked-cong}
+use Rattle.vetting.proofs.ReducedTables.{table-iff, ofCoalition}
+use Rattle.vetting.proofs.WatchLaws.{server-watches, relay-watches, watchedBy}
+use Rattle.vetting.proofs.BaseRows.{base-row, base-sum, base-table}
+
+-- ---- the pairs of the walk
+
+-- a coalition of the users, and an observer
+abbrev Walked : Plan → Pair → Type 0
+Walked P pair = (pair .coalition < 2 ^ usersOf P) × (pair .observer ≤ P .clusters)
+
+module _ {A : Type 0} (Q : A → Type 0) where
+  all-tab : (n : ℕ) (f : ℕ → ℕ) (h : ℕ → A) → ((k : ℕ) → k < n → Q (h (f k))) → All Q (map h (tab n f))
+  unfolding tab
+  all-tab zero f h a = tt
+  all-tab (suc n) f h a = (a 0 (omega arith), all-tab n (λ k. f (suc k)) h (λ k l. a (suc k) (omega arith)))
+
+  all-lists : (n : ℕ) (b : ℕ → Bool) (f : ℕ → List A) → ((i : ℕ) → i < n → All Q (f i)) → All Q (picked n b f)
+  unfolding picked joinTo
+  all-lists zero b f h = tt
+  all-lists (suc n) b f h = all-append Q (picked n b f) (cond (b n) (f n) []) (all-lists n b f (λ i l. h i (omega arith))) (go (b n))
+    where
+      go : (t : Bool) → All Q (cond t (f n) [])
+      go true = h n (omega arith)
+      go false = tt
+
+pairs-walked : (P : Plan) → All (Walked P) (pairs (P .clusters) (P .size) (P .limit))
+unfolding pairs observers
+pairs-walked P =
+    all-lists (Walked P) (2 ^ usersOf P) (λ g. leb (howMany (usersOf P) (inCoalition g)) (P .limit))
+    (λ g. map (λ w. record { coalition = g; observer = w }) (observers (P .clusters)))
+    (λ g l.
+    subst (All (Walked P)) (sym (map-append (λ w. record { coalition = g; observer = w }) (tab (P .clusters) suc) (0 ∷ [])))
+    (all-append (Walked P) (map (λ w. record { coalition = g; observer = w }) (tab (P .clusters) suc)) (record { coalition = g; observer = 0 } ∷ [])
+    (all-tab (Walked P) (P .clusters) suc (λ w. record { coalition = g; observer = w }) (λ k m. (l, m)))
+    ((l, omega arith), tt)))
+
+-- a walk with the test of leaking finds what the order of refusals names
+first-leak : (P : Plan) (K : List ℕ) (f : ℕ → ℕ → Bool) (l : List Pair)
+    → All (λ p. f (p .coalition) (p .observer) ≡ leaks (poolOf P K) (p .coalition) (p .observer)) l
+    → foundCode (firstHit f l) ≡ firstOf (map (leakCheck P K) l)
+unfolding firstHit
+first-leak P K f [] h = refl
+first-leak P K f (p ∷ l) h =
+    ap (λ (t : Bool). foundCode (cond t (At p) (firstHit f l))) (h .0)
+    ∙ go (leaks (poolOf P K) (p .coalition) (p .observer)) (first-leak P K f l (h .1))
+  where
+    go : (t : Bool) → foundCode (firstHit f l) ≡ firstOf (map (leakCheck P K) l)
+        → foundCode (cond t (At p) (firstHit f l))
+        ≡ cond t (record { number = 7; first = p .coalition; second = p .observer }) (firstOf (map (leakCheck P K) l))
+    go true ih = refl
+    go false ih = ih
+
+-- ---- the test
+
+module _ (P : Plan) (K : List ℕ) (bounds : Bounds P) (symbols : length K ≡ usersOf P * P .rate) (prime : Prime (P .q)) (valid : Vector (P .q) (usersOf P * P .rate) K)
+    (zs : ZeroSum (poolOf P K)) where
+  table : Table (P .q) (rowsIn P) (P .rate) (baseTable P K)
+  table = base-table P K symbols prime valid bounds
+
+  module _ (g : ℕ) (low : g < 2 ^ usersOf P) where
+    member : (j : ℕ) → T (inCoalition g j) → j < usersOf P
+    member j t = Dec·not-not (decLt j (usersOf P)) .0 (λ n. absurd (subst T (bit-above g (usersOf P) j low (omega arith)) t))
+
+    in-rows : usersOf P ≤ rowsIn P
+    in-rows = omega arith
+
+    in-walk : usersOf P ≤ 16
+    in-walk = bounds .counts .few-users
+
+    coalition-is : ofCoalition (P .q) prime (rowsIn P) (P .rate) (baseTable P K) table (usersOf P) g in-rows in-walk member ≡ coalitionRows (poolOf P K) g
+    coalition-is =
+        picked-cong (usersOf P) (inCoalition g) (inCoalition g) (λ i. rowOf (P .rate) (baseTable P K) i ∷ []) (λ i. row (poolOf P K) i ∷ [])
+        (λ i l. refl) (λ i l. ap (λ (r : List ℕ). r ∷ []) (base-row P K symbols i l))
+
+    watched-is : (w : ℕ) → w ≤ P .clusters → watchedBy (poolOf P K) g low (rowOf (P .rate) (baseTable P K)) w ≡ watchedRows (poolOf P K) g w
+    watched-is zero h =
+        server-watches (poolOf P K) g low (rowOf (P .rate) (baseTable P K))
+        ∙ picked-cong (P .clusters) (tested (poolOf P K) g) (tested (poolOf P K) g)
+        (λ u. rowOf (P .rate) (baseTable P K) (usersOf P + u) ∷ []) (λ u. sumRow (poolOf P K) u ∷ [])
+        (λ u l. refl) (λ u l. ap (λ (r : List ℕ). r ∷ []) (base-sum P K symbols u l))
+    watched-is (suc u) h =
+        relay-watches (poolOf P K) g low (rowOf (P .rate) (baseTable P K)) u h (bounds .counts .some-size)
+        ∙ picked-cong (usersOf P) (outside (poolOf P K) (inCluster (poolOf P K) u) g) (outside (poolOf P K) (inCluster (poolOf P K) u) g)
+        (λ i. rowOf (P .rate) (baseTable P K) i ∷ []) (λ i. row (poolOf P K) i ∷ [])
+        (λ i l. refl) (λ i l. ap (λ (r : List ℕ). r ∷ []) (base-row P K symbols i l))
+
+    pub decides : (w : ℕ) → w ≤ P .clusters → hit P (baseTable P K) g w ≡ leaks (poolOf P K) g w
+    decides w h =
+        let test = table-iff (P .q) prime (rowsIn P) (P .rate) (baseTable P K) table (usersOf P) g in-rows in-walk member (watchMask (P .clusters) (P .size) g w) g in
+        let quiet = pair-iff (poolOf P K) prime valid zs g w in
+        let search = leaks-iff (poolOf P K) prime valid g w in
+        let same : Independent (P .q) (P .rate) (ofCoalition (P .q) prime (rowsIn P) (P .rate) (baseTable P K) table (usersOf P) g in-rows in-walk member)
+        (watchedBy (poolOf P K) g low (rowOf (P .rate) (baseTable P K)) w)
+        ≡ Independent (P .q) (P .rate) (coalitionRows (poolOf P K) g) (watchedRows (poolOf P K) g w)
+        = ap₂ (Independent (P .q) (P .rate)) coalition-is (watched-is w h) in
+        T-ext (hit P (baseTable P K) g w) (leaks (poolOf P K) g w)
+        (λ t.
+        Dec·not-not (T-decide (leaks (poolOf P K) g w)) .0
+        (λ n. test .0 t (subst (λ X. X) (sym same) (quiet .0 (λ k. n (search .1 k))))))
+        (λ t. test .1 (λ i. quiet .1 (subst (λ X. X) same i) (search .0 t)))
+
+zero-sum : (P : Plan) (K : List ℕ) → ((k : ℕ) → k < P .rate → columnSum P K k ≡ 0) → ZeroSum (poolOf P K)
+unfolding columnSum
+zero-sum P K z = z
+
+pub found-verdict : (P : Plan) (K : List ℕ) → inBounds P ≡ true → length K ≡ usersOf P * P .rate → Prime (P .q) → allBelow (P .q) K ≡ true
+    → ((k : ℕ) → k < P .rate → columnSum P K k ≡ 0)
+    → foundCode (walked P (baseTable P K)) ≡ firstOf (map (leakCheck P K) (pairs (P .clusters) (P .size) (P .limit)))
+found-verdict P K b l p s z =
+    let valid : Vector (P .q) (usersOf P * P .rate) K
+    = record { size = l; small = λ i k. below-at (P .q) K (prime-pos p) (true→T (allBelow (P .q) K) s) i } in
+    first-leak P K (hit P (baseTable P K)) (pairs (P .clusters) (P .size) (P .limit))
+    (all-map (Walked P) (λ x. hit P (baseTable P K) (x .coalition) (x .observer) ≡ leaks (poolOf P K) (x .coalition) (x .observer))
+    (λ x w. decides P K (bounds-known P b) l p valid (zero-sum P K z) (x .coalition) (w .0) (x .observer) (w .1))
+    (pairs (P .clusters) (P .size) (P .limit)) (pairs-walked P))

@@ -1,0 +1,11 @@
+mod BitLaws
+mod MaskLaws
+mod LevelLaws
+mod GatherLaws
+mod WalkLaws
+mod PlanBounds
+mod PickedLaws
+mod ReducedTables
+mod WatchLaws
+mod BaseRows
+mod Deciding

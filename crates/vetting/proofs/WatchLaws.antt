@@ -1,0 +1,156 @@
+-- The rows that the masks choose are those of the condition on ranks: a relay's users outside the coalition, and the sums of the open clusters
+-- before the last.
+use mathlib.Core.Path.{_≡_, refl, sym, ap, ap₂, _∙_, subst}
+use mathlib.Core.Logic.{_⊎_, inl, inr}
+use mathlib.Core.Bool.{Bool, true, false, cond, not, _&&_, _||_, and-true, and-false, or-true, or-false}
+use mathlib.Core.List.{List, [], _∷_, _++_, append-nil}
+use Prim.Native.Nat.{ℕ, zero, suc, _+_, _-_, _*_, _/_, _%_, _^_, _≤_, _<_}
+use native.Mathlib.Nat.{mul-le-mul, div-div-eq-div-mul, div-add-mod', div-eq-of-lt-le, mod-lt}
+use native.Mathlib.Decide.{ℕ-discrete, decLt}
+use native.Mathlib.Omega.{arith}
+use lib.Dec.{lit<, T, eqb, ltb, leb, ltb→lt, lt→ltb}
+use lib.Pow.{pow-add}
+use borrow.Author.Tests.{eq-eqb, ne-eqb, lt-ltb, le-ltb, le-leb, lt-leb}
+use Rattle.arithmetic.specs.Search.{anyTo, allTo}
+use Rattle.arithmetic.proofs.Searches.{T→true, true→T, T-ext, T-and, and-T, any-found, any-at, all-at, all-made, not-T→false}
+use Rattle.secrecy.specs.Lists.{picked}
+use Rattle.secrecy.specs.Counts.{sumTo}
+use Rattle.secrecy.specs.Model.{Pool, users, inCoalition, inCluster}
+use Rattle.secrecy.proofs.RankCondition.{outside, opened, tested}
+use Rattle.vetting.specs.Walking.{chosen, clusterMask, openTo, openMask, testedMask, watchMask}
+use Rattle.vetting.proofs.BitLaws.{lt-or-ge, mask-bits, mask-under, mask-from, mask-has, bit-above, all-ones}
+use Rattle.vetting.proofs.PickedLaws.{picked-cong, picked-nothing, picked-split}
+
+-- ---- open clusters
+
+-- the bits of a shifted number
+shifted-bit : (g a v : ℕ) → inCoalition (g / 2 ^ a) v ≡ inCoalition g (a + v)
+unfolding inCoalition
+shifted-bit g a v =
+    ap (λ (z : ℕ). eqb (z % 2) 1) (div-div-eq-div-mul g (2 ^ a) (2 ^ v) ∙ ap (λ (z : ℕ). g / z) (sym (pow-add 2 a v)))
+
+all-cong : (n : ℕ) (f h : ℕ → Bool) → ((k : ℕ) → f k ≡ h k) → allTo n f ≡ allTo n h
+unfolding allTo
+all-cong zero f h e = refl
+all-cong (suc n) f h e = ap₂ _&&_ (all-cong n f h e) (e n)
+
+any-cong : (n : ℕ) (f h : ℕ → Bool) → ((k : ℕ) → f k ≡ h k) → anyTo n f ≡ anyTo n h
+unfolding anyTo
+any-cong zero f h e = refl
+any-cong (suc n) f h e = ap₂ _||_ (any-cong n f h e) (e n)
+
+open-is : (P : Pool) (g u : ℕ) → openTo (P .size) g u ≡ opened P g u
+unfolding opened
+open-is P g u =
+    ap not (all-ones (g / 2 ^ (u * P .size)) (P .size)
+    ∙ all-cong (P .size) (inCoalition (g / 2 ^ (u * P .size))) (λ v. inCoalition g (u * P .size + v)) (shifted-bit g (u * P .size)))
+
+-- ---- the open clusters before the last of them
+
+module _ (size g : ℕ) where
+  -- is some cluster below k, and after u, open?
+  unfoldable after : ℕ → ℕ → Bool
+  after k u = anyTo k (λ w. ltb u w && openTo size g w)
+
+  after-none : (k u : ℕ) → k ≤ u → after k u ≡ false
+  unfolding after
+  after-none k u h =
+      not-T→false (anyTo k (λ w. ltb u w && openTo size g w))
+      (λ t.
+      let (w, l, f) = any-found k (λ w. ltb u w && openTo size g w) t in
+      absurd (omega (arith, ltb→lt u w (T-and (ltb u w) (openTo size g w) f .0))))
+
+  tested-next : (k u : ℕ) (t : Bool) → Dec (u < k) → inCoalition (testedMask size g k) u ≡ (openTo size g u && after k u)
+      → inCoalition (cond t (openMask size g k) (testedMask size g k)) u ≡ (openTo size g u && (after k u || (ltb u k && t)))
+  unfolding openMask
+  tested-next k u true (yes h) ih =
+      mask-has (openTo size g) k u
+      ∙ ap (λ (x : Bool). x && openTo size g u) (lt-ltb u k h)
+      ∙ sym (ap (λ (x : Bool). openTo size g u && (after k u || (x && true))) (lt-ltb u k h)
+      ∙ ap (λ (x : Bool). openTo size g u && x) (or-true (after k u))
+      ∙ and-true (openTo size g u))
+  tested-next k u true (no h) ih =
+      mask-has (openTo size g) k u
+      ∙ ap (λ (x : Bool). x && openTo size g u) (le-ltb u k (omega arith))
+      ∙ sym (ap₂ (λ (y x : Bool). openTo size g u && (y || (x && true))) (after-none k u (omega arith)) (le-ltb u k (omega arith))
+      ∙ and-false (openTo size g u))
+  tested-next k u false d ih =
+      ih ∙ sym (ap (λ (x : Bool). openTo size g u && (after k u || x)) (and-false (ltb u k)) ∙ ap (λ (x : Bool). openTo size g u && x) (or-false (after k u)))
+
+  tested-bits : (k u : ℕ) → inCoalition (testedMask size g k) u ≡ (openTo size g u && after k u)
+  unfolding testedMask after anyTo
+  tested-bits zero u = bit-above 0 0 u (lit< tt) (omega arith) ∙ sym (and-false (openTo size g u))
+  tested-bits (suc k) u = tested-next k u (openTo size g k) (decLt u k) (tested-bits k u)
+
+-- the clusters whose sums the server watches
+pub tested-is : (P : Pool) (g u : ℕ) → inCoalition (testedMask (P .size) g (P .clusters)) u ≡ tested P g u
+unfolding tested after
+tested-is P g u =
+    tested-bits (P .size) g (P .clusters) u
+    ∙ ap₂ _&&_ (open-is P g u)
+    (any-cong (P .clusters) (λ w. ltb u w && openTo (P .size) g w) (λ w. ltb u w && opened P g w) (λ w. ap (λ (x : Bool). ltb u w && x) (open-is P g w)))
+
+-- ---- the users of a cluster
+
+cluster-is : (P : Pool) (u i : ℕ) → 1 ≤ P .size → inCoalition (clusterMask (P .size) u) i ≡ inCluster P u i
+unfolding inCluster
+cluster-is P u i s = mask-bits (P .size) (u * P .size) i ∙ go (lt-or-ge i (u * P .size)) (lt-or-ge i (u * P .size + P .size))
+  where
+    parts : i / P .size * P .size + i % P .size ≡ i
+    parts = div-add-mod' i (P .size)
+
+    small : i % P .size < P .size
+    small = mod-lt i s
+
+    go : (i < u * P .size) ⊎ (u * P .size ≤ i) → (i < u * P .size + P .size) ⊎ (u * P .size + P .size ≤ i)
+        → (leb (u * P .size) i && ltb i (u * P .size + P .size)) ≡ eqb (i / P .size) u
+    go (inl l) b =
+        ap (λ (x : Bool). x && ltb i (u * P .size + P .size)) (lt-leb (u * P .size) i l)
+        ∙ sym (ne-eqb (i / P .size) u (λ e. absurd (omega (arith, parts, ap (λ (z : ℕ). z * P .size) e))))
+    go (inr l) (inl h) =
+        ap₂ _&&_ (le-leb (u * P .size) i l) (lt-ltb i (u * P .size + P .size) h)
+        ∙ sym (eq-eqb (i / P .size) u (div-eq-of-lt-le {k = u} (P .size) {m = i} l (omega arith)))
+    go (inr l) (inr h) =
+        ap₂ _&&_ (le-leb (u * P .size) i l) (le-ltb i (u * P .size + P .size) h)
+        ∙ sym (ne-eqb (i / P .size) u (λ e. absurd (omega (arith, parts, small, ap (λ (z : ℕ). z * P .size) e))))
+
+-- ---- what is watched
+
+module _ (P : Pool) (g : ℕ) (low : g < 2 ^ users P) (f : ℕ → List ℕ) where
+  abbrev pub watchedBy : ℕ → List (List ℕ)
+  watchedBy w = picked (users P + P .clusters) (chosen (watchMask (P .clusters) (P .size) g w) g) (λ i. f i ∷ [])
+
+  -- the rows from number `users` on are the clusters'
+  split : (w : ℕ) → watchedBy w ≡ picked (users P) (chosen (watchMask (P .clusters) (P .size) g w) g) (λ i. f i ∷ [])
+      ++ picked (P .clusters) (λ u. chosen (watchMask (P .clusters) (P .size) g w) g (users P + u)) (λ u. f (users P + u) ∷ [])
+  split w = picked-split (users P) (P .clusters) (chosen (watchMask (P .clusters) (P .size) g w) g) (λ i. f i ∷ [])
+
+  pub server-watches : watchedBy 0 ≡ picked (P .clusters) (tested P g) (λ u. f (users P + u) ∷ [])
+  server-watches =
+      let m : ℕ = testedMask (P .size) g (P .clusters) in
+      split 0
+      ∙ ap₂ _++_
+      (picked-nothing (users P) (chosen (m * 2 ^ users P) g) (λ i. f i ∷ [])
+      (λ i l. ap (λ (x : Bool). x && not (inCoalition g i)) (mask-under m (users P) i l)))
+      (picked-cong (P .clusters) (λ u. chosen (m * 2 ^ users P) g (users P + u)) (tested P g) (λ u. f (users P + u) ∷ []) (λ u. f (users P + u) ∷ [])
+      (λ u l.
+      ap₂ (λ (x y : Bool). x && not y) (mask-from m (users P) u ∙ tested-is P g u) (bit-above g (users P) (users P + u) low (omega arith))
+      ∙ and-true (tested P g u))
+      (λ u l. refl))
+
+  pub relay-watches : (u : ℕ) → u < P .clusters → 1 ≤ P .size → watchedBy (suc u) ≡ picked (users P) (outside P (inCluster P u) g) (λ i. f i ∷ [])
+  unfolding outside
+  relay-watches u h s =
+      let last : u * P .size + P .size ≤ users P = omega (arith, mul-le-mul {n₁ = suc u} {m₁ = P .size} {n₂ = P .clusters} {m₂ = P .size} h (omega arith)) in
+      split (suc u)
+      ∙ ap₂ _++_
+      (picked-cong (users P) (chosen (clusterMask (P .size) u) g) (outside P (inCluster P u) g) (λ i. f i ∷ []) (λ i. f i ∷ [])
+      (λ i l. ap (λ (x : Bool). x && not (inCoalition g i)) (cluster-is P u i s))
+      (λ i l. refl))
+      (picked-nothing (P .clusters) (λ x. chosen (clusterMask (P .size) u) g (users P + x)) (λ x. f (users P + x) ∷ [])
+      (λ x l.
+      ap (λ (y : Bool). y && not (inCoalition g (users P + x)))
+      (mask-bits (P .size) (u * P .size) (users P + x)
+      ∙ ap (λ (y : Bool). leb (u * P .size) (users P + x) && y) (le-ltb (users P + x) (u * P .size + P .size) (omega arith))
+      ∙ and-false (leb (u * P .size) (users P + x)))))
+      ∙ append-nil (picked (users P) (outside P (inCluster P u) g) (λ i. f i ∷ []))

@@ -1,0 +1,29 @@
+use borrow.Author.Tests.{ne-eqb}
+use mathlib.Core.Path.{refl, sym, _∙_}
+use Prim.Native.Nat.{_/_, _%_, _^_}
+use lib.Bits.{and-mask}
+use Rattle.secrecy.specs.Model.{inCoalition}
+use borrow.Author.Needs.{needs}
+use Rattle.vetting.proofs.walk.is_chosen.Statement.{statement}
+use Rattle.vetting.proofs.walk.is_chosen.Tie as tie
+
+shr-if1 : tie.Need-shr-if1
+shr-if1 c = search needs
+
+shr-result : tie.Need-shr-result
+shr-result c = search needs
+
+returns : tie.Need-returns
+unfolding inCoalition
+returns c =
+    let a = c .before .args in
+    rw (and-mask (a .skip / 2 ^ a .i) 1) (rw (sym (and-mask (a .watch / 2 ^ a .i) 1) ∙ c .if1 .taken) refl)
+
+returns-2 : tie.Need-returns-2
+unfolding inCoalition
+returns-2 c =
+    let a = c .before .args in
+    rw (ne-eqb (a .watch / 2 ^ a .i % 2) 1 (λ e. c .if1 .left (and-mask (a .watch / 2 ^ a .i) 1 ∙ e)))
+
+pub is-chosen-spec : {M : Type 1} → statement M
+is-chosen-spec = tie.close (tie.spec shr-if1 shr-result returns returns-2)

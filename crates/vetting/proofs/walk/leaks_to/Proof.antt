@@ -1,0 +1,90 @@
+use mathlib.Core.Path.{_≡_, ap, ap₂, _∙_}
+use mathlib.Core.List.{List}
+use Prim.Native.Nat.{ℕ, _+_, _-_, _*_, _≤_}
+use native.Mathlib.Omega.{arith}
+use lib.Count.{ones, ones-le}
+use lib.ListN.{take, drop}
+use Rattle.vetting.specs.Walking.{dependent}
+use Rattle.vetting.proofs.GatherLaws.{few-numbers}
+use borrow.Author.Needs.{needs}
+use Rattle.vetting.proofs.walk.leaks_to.Statement.{statement}
+use Rattle.vetting.proofs.walk.leaks_to.Tie as tie
+
+mul-rows : tie.Need-mul-rows
+mul-rows c = search needs
+
+add-rows : tie.Need-add-rows
+add-rows c = search needs
+
+cast-watch-mask : tie.Need-cast-watch-mask
+cast-watch-mask c = search needs
+
+cast-watch-mask-2 : tie.Need-cast-watch-mask-2
+cast-watch-mask-2 c = search needs
+
+watch-mask-requires : tie.Need-watch-mask-requires
+watch-mask-requires c κs = search needs
+
+-- a coalition has at most 16 members, and a level has room for the table
+low : (s : tie.Start) → ones (s .args .g) ≤ 16
+low s = ones-le 16 (s .args .g) (omega arith)
+
+room : (s : tie.Start) → (s .args .clusters * s .args .size + s .args .clusters) * s .args .cols ≤ 384
+room s = few-numbers (s .args .clusters * s .args .size + s .args .clusters) (s .args .cols) (omega (arith, s .pre .1, s .pre .3)) (s .pre .4)
+
+cast-b : tie.Need-cast-b
+cast-b c = omega (arith, low (c .before .before))
+
+mul-b : tie.Need-mul-b
+mul-b c = omega (arith, low (c .before .before))
+
+mul-e : tie.Need-mul-e
+mul-e c = omega (arith, room (c .before .before))
+
+add-e : tie.Need-add-e
+add-e c = omega (arith, low (c .before .before), room (c .before .before))
+
+mul-are-dependent : tie.Need-mul-are-dependent
+mul-are-dependent c = omega (arith, low (c .before .before))
+
+sub-are-dependent : tie.Need-sub-are-dependent
+sub-are-dependent c = search needs
+
+part-are-dependent-start : tie.Need-part-are-dependent-start
+part-are-dependent-start c = search needs
+
+part-are-dependent-end : tie.Need-part-are-dependent-end
+part-are-dependent-end c = omega (arith, low (c .before .before), room (c .before .before), c .before .before .pre .0)
+
+are-dependent-requires : tie.Need-are-dependent-requires
+are-dependent-requires c κs = search needs
+
+returns : tie.Need-returns
+returns c =
+    let a = c .before .before .before .before .args in
+    let b : ℕ = ones (a .g) * 384 in
+    let n : ℕ = (a .clusters * a .size + a .clusters) * a .cols in
+    let e : b + n - b ≡ n = omega arith in
+    c .are-dependent .ensures
+    ∙ ap₂ (λ (m : ℕ) (X : List ℕ). dependent (a .q) (a .clusters * a .size + a .clusters) (a .cols) m (a .g) X) (c .before .before .watch-mask .ensures)
+    (ap (λ (k : ℕ). take k (drop b (a .levels .now))) e)
+
+pub leaks-to-spec : {M : Type 1} → statement M
+leaks-to-spec =
+    tie.close
+    (tie.spec
+    mul-rows
+    add-rows
+    cast-watch-mask
+    cast-watch-mask-2
+    watch-mask-requires
+    cast-b
+    mul-b
+    mul-e
+    add-e
+    mul-are-dependent
+    sub-are-dependent
+    part-are-dependent-start
+    part-are-dependent-end
+    are-dependent-requires
+    returns)

@@ -1,0 +1,308 @@
+-- The walk's invariant: the tables of the coalitions above the one in hand stand on their levels, and the first hit of the pairs that are left is the
+-- first of all; the inner loop's: the same of the observers that are left.
+use mathlib.Core.Path.{_≡_, refl, sym, ap, _∙_, subst}
+use mathlib.Core.Bool.{Bool}
+use mathlib.Core.Logic.{⊎-elim}
+use mathlib.Core.List.{List, [], _∷_, _++_, map}
+use Prim.Native.Nat.{ℕ, suc, _+_, _-_, _*_, _%_, _^_, _≤_, _<_}
+use native.Mathlib.Nat.{one-mul, pos-of-ne-zero, sub-zero, mod-lt}
+use native.Mathlib.Omega.{arith}
+use lib.Count.{ones, ones-le, trailingZeros, trailing-le}
+use lib.Pow.{pow-pos, pow-mono}
+use lib.ListN.{length, take}
+use Rattle.vetting.specs.declared.Pair.{Pair}
+use Rattle.vetting.specs.Plans.{plan}
+use Rattle.vetting.specs.Walk.{observers, pairs}
+use Rattle.vetting.specs.Walking.{watchMask, dependent, tableOf, hit, firstHit, walked}
+use Rattle.vetting.proofs.BitLaws.{one-shl, low-ones}
+use Rattle.vetting.proofs.WalkLaws.{Holds, Full, to-next, full-none, full-skip, full-at, full-step, pairOf, observersFrom, observers-are, observers-next, observers-none, pairsFrom, pairs-are, pairs-kept, pairs-skipped, pairs-end, hit-first, miss-first, hit-none}
+use Rattle.vetting.proofs.walk.walk_levels.Statement.{statement}
+use Rattle.vetting.proofs.walk.walk_levels.Tie as tie
+
+-- the table of level 0, and the pairs of the coalitions after g
+abbrev base : ℕ → ℕ → ℕ → List ℕ → List ℕ
+base clusters size cols L = take ((clusters * size + clusters) * cols) L
+
+abbrev rest : ℕ → ℕ → ℕ → ℕ → List Pair
+rest clusters size limit g = pairsFrom (clusters * size) limit clusters (2 ^ (clusters * size) - (g + 1)) (g + 1)
+
+abbrev Inv-loop : tie.InvT-loop
+Inv-loop q clusters size limit cols levels users rows last top g k w₀ w =
+    let T : List ℕ = base clusters size cols levels in
+    (1 ≤ w)
+    × (w ≤ clusters + 2)
+    × (firstHit (hit (plan clusters size limit cols q) T) (map (pairOf g) (observersFrom clusters (clusters + 2 - w) w) ++ rest clusters size limit g) ≡ walked (plan clusters size limit cols q) T)
+
+abbrev μ-loop : tie.MeasureT-loop
+μ-loop q clusters size limit cols levels users rows last top g k w₀ w = clusters + 2 - w
+
+abbrev Inv-walk : tie.InvT-walk
+Inv-walk q clusters size limit cols levels₀ users rows last top g₀ levels g =
+    let T : List ℕ = base clusters size cols levels₀ in
+    (g < 2 ^ (clusters * size))
+    × Holds q (clusters * size + clusters) cols limit T levels g
+    × (firstHit (hit (plan clusters size limit cols q) T) (pairsFrom (clusters * size) limit clusters (2 ^ (clusters * size) - g) g) ≡ walked (plan clusters size limit cols q) T)
+
+abbrev μ-walk : tie.MeasureT-walk
+μ-walk q clusters size limit cols levels₀ users rows last top g₀ levels g = 2 ^ (clusters * size) - g
+
+-- the machine's 1 << n
+top-is : (n : ℕ) → n ≤ 16 → 1 * 2 ^ n % 2 ^ 32 ≡ 2 ^ n
+top-is n h = one-shl 32 n (omega arith) ∙ one-mul (2 ^ n)
+
+-- a coalition's number has 16 digits, and the tables have 24 rows
+small : (c : tie.At-walk Inv-loop μ-loop Inv-walk μ-walk) → c .walk .g < 2 ^ 16
+small c = omega (arith, c .walk .inv .0, pow-mono (c .before .before .pre .3))
+
+rows-few : (s : tie.Start Inv-loop μ-loop Inv-walk μ-walk) → s .args .clusters * s .args .size + s .args .clusters ≤ 24
+rows-few s = omega (arith, s .pre .1, s .pre .3)
+
+-- the coalition in hand has its observers before it
+kept : (c : tie.Then1 Inv-loop μ-loop Inv-walk μ-walk)
+    → (let g : ℕ = c .before .walk .g in let a = c .before .before .before .args in
+    firstHit (hit (plan (a .clusters) (a .size) (a .limit) (a .cols) (a .q)) (base (a .clusters) (a .size) (a .cols) (a .levels .now))) (map (pairOf g) (observers (a .clusters)) ++ rest (a .clusters) (a .size) (a .limit) g) ≡ walked (plan (a .clusters) (a .size) (a .limit) (a .cols) (a .q)) (base (a .clusters) (a .size) (a .cols) (a .levels .now)))
+kept c =
+    let g : ℕ = c .before .walk .g in
+    let a = c .before .before .before .args in
+    let i = c .before .walk .inv in
+    ap (firstHit (hit (plan (a .clusters) (a .size) (a .limit) (a .cols) (a .q)) (base (a .clusters) (a .size) (a .cols) (a .levels .now)))) (sym (pairs-kept (a .clusters * a .size) (a .limit) (a .clusters) g (i .0) (c .if1 .taken))) ∙ i .2
+
+-- each level up to that of g is right
+full : (c : tie.Joined2 Inv-loop μ-loop Inv-walk μ-walk)
+    → (let a = c .before .before .before .before .args in Full (a .q) (a .clusters * a .size + a .clusters) (a .cols) (a .limit) (base (a .clusters) (a .size) (a .cols) (a .levels .now)) (c .if2 .levels) (c .before .before .walk .g))
+full c =
+    let s = c .before .before .before .before in
+    let a = s .args in
+    let g : ℕ = c .before .before .walk .g in
+    let L : List ℕ = c .before .before .walk .levels in
+    let rows : ℕ = a .clusters * a .size + a .clusters in
+    let T : List ℕ = (base (a .clusters) (a .size) (a .cols) (a .levels .now)) in
+    let H : Holds (a .q) rows (a .cols) (a .limit) T L g = c .before .before .walk .inv .1 in
+    ⊎-elim
+    (λ w.
+    subst (λ (X : List ℕ). Full (a .q) rows (a .cols) (a .limit) T X g) (sym (w .5 ∙ w .2 .ensures))
+    (full-step (a .q) rows (a .cols) (a .limit) T L g (pos-of-ne-zero (w .0 .taken)) (small (c .before .before)) (rows-few s) (s .pre .4) H (c .before .if1 .taken)))
+    (λ w.
+    let z : 0 ≡ g = sym (w .0 .left) in
+    subst (λ (X : List ℕ). Full (a .q) rows (a .cols) (a .limit) T X g) (sym (w .1))
+    (subst (λ (x : ℕ). Full (a .q) rows (a .cols) (a .limit) T L x) z (full-none (a .q) rows (a .cols) (a .limit) T L (subst (λ (x : ℕ). Holds (a .q) rows (a .cols) (a .limit) T L x) (sym z) H))))
+    (c .if2 .came)
+
+-- the test of an observer is that of the definition
+tested : (c : tie.After-leaks-to Inv-loop μ-loop Inv-walk μ-walk)
+    → (let d = c .before .before .before .before in let a = d .before .before .before .before .args in
+    c .leaks-to .result ≡ hit (plan (a .clusters) (a .size) (a .limit) (a .cols) (a .q)) (base (a .clusters) (a .size) (a .cols) (d .if2 .levels)) (d .before .before .walk .g) (c .before .before .before .loop .w % (a .clusters + 1)))
+tested c =
+    let d = c .before .before .before .before in
+    let a = d .before .before .before .before .args in
+    let rows : ℕ = a .clusters * a .size + a .clusters in
+    let g : ℕ = d .before .before .walk .g in
+    let w : ℕ = c .before .before .before .loop .w % (a .clusters + 1) in
+    let G = full d in
+    c .leaks-to .ensures
+    ∙ ap (dependent (a .q) rows (a .cols) (watchMask (a .clusters) (a .size) g w) g)
+    (full-at (a .q) rows (a .cols) (a .limit) (base (a .clusters) (a .size) (a .cols) (a .levels .now)) (d .if2 .levels) g (d .before .if1 .taken) G
+    ∙ ap (λ (X : List ℕ). tableOf (a .q) rows (a .cols) X g) (sym (G .base)))
+
+-- after a coalition, looked at or not
+joined : (c : tie.Joined1 Inv-loop μ-loop Inv-walk μ-walk)
+    → (let a = c .before .before .before .args in Full (a .q) (a .clusters * a .size + a .clusters) (a .cols) (a .limit) (base (a .clusters) (a .size) (a .cols) (a .levels .now)) (c .if1 .levels) (c .before .walk .g))
+joined c =
+    let a = c .before .before .before .args in
+    let g : ℕ = c .before .walk .g in
+    let rows : ℕ = a .clusters * a .size + a .clusters in
+    let T : List ℕ = (base (a .clusters) (a .size) (a .cols) (a .levels .now)) in
+    ⊎-elim
+    (λ w. subst (λ (X : List ℕ). Full (a .q) rows (a .cols) (a .limit) T X g) (sym (w .4)) (full (record { before = record { before = c .before; if1 = w .0 }; if2 = w .1 })))
+    (λ w. subst (λ (X : List ℕ). Full (a .q) rows (a .cols) (a .limit) T X g) (sym (w .1)) (full-skip (a .q) rows (a .cols) (a .limit) T (c .before .walk .levels) g (w .0 .left) (c .before .walk .inv .1)))
+    (c .if1 .came)
+
+-- the coalition is behind, or was none
+over : (c : tie.Joined1 Inv-loop μ-loop Inv-walk μ-walk)
+    → (let g : ℕ = c .before .walk .g in let a = c .before .before .before .args in
+    firstHit (hit (plan (a .clusters) (a .size) (a .limit) (a .cols) (a .q)) (base (a .clusters) (a .size) (a .cols) (a .levels .now))) (rest (a .clusters) (a .size) (a .limit) g) ≡ walked (plan (a .clusters) (a .size) (a .limit) (a .cols) (a .q)) (base (a .clusters) (a .size) (a .cols) (a .levels .now)))
+over c =
+    let a = c .before .before .before .args in
+    let g : ℕ = c .before .walk .g in
+    let i = c .before .walk .inv in
+    let R : List Pair = rest (a .clusters) (a .size) (a .limit) g in
+    ⊎-elim
+    (λ w.
+    subst (λ (X : List ℕ). firstHit (hit (plan (a .clusters) (a .size) (a .limit) (a .cols) (a .q)) X) R ≡ walked (plan (a .clusters) (a .size) (a .limit) (a .cols) (a .q)) X)
+    (full (record { before = record { before = c .before; if1 = w .0 }; if2 = w .1 }) .base)
+    (ap (λ (l : List ℕ). firstHit (hit (plan (a .clusters) (a .size) (a .limit) (a .cols) (a .q)) (base (a .clusters) (a .size) (a .cols) (w .1 .levels))) (map (pairOf g) l ++ R)) (sym (observers-none (a .clusters) (w .2 .w) (w .3 .left))) ∙ w .2 .inv .2))
+    (λ w. ap (firstHit (hit (plan (a .clusters) (a .size) (a .limit) (a .cols) (a .q)) (base (a .clusters) (a .size) (a .cols) (a .levels .now)))) (sym (pairs-skipped (a .clusters * a .size) (a .limit) (a .clusters) g (i .0) (w .0 .left))) ∙ i .2)
+    (c .if1 .came)
+
+-- the coalition in hand is not the last
+more : (c : tie.Else4 Inv-loop μ-loop Inv-walk μ-walk) → (let a = c .before .before .before .before .args in c .before .before .walk .g + 1 < 2 ^ (a .clusters * a .size))
+more c =
+    let s = c .before .before .walk in
+    let d = c .before .before .before .before in
+    let n : ℕ = d .args .clusters * d .args .size in
+    let e : 1 * 2 ^ n % 2 ^ 32 ≡ 2 ^ n = top-is n (d .pre .3) in
+    let x : (s .g ≡ 2 ^ n - 1) → ⊥ = λ x. c .if4 .left (x ∙ ap (λ (k : ℕ). k - 1) (sym e)) in
+    omega (arith, x, s .inv .0)
+
+mul-users : tie.Need-mul-users Inv-loop μ-loop Inv-walk μ-walk
+mul-users c = omega (arith, c .before .pre .3)
+
+add-rows : tie.Need-add-rows Inv-loop μ-loop Inv-walk μ-walk
+add-rows c = omega (arith, c .before .pre .1, c .before .pre .3)
+
+cast-last : tie.Need-cast-last Inv-loop μ-loop Inv-walk μ-walk
+cast-last c = omega (arith, c .before .pre .1)
+
+add-last : tie.Need-add-last Inv-loop μ-loop Inv-walk μ-walk
+add-last c = omega (arith, c .before .pre .1)
+
+cast-top : tie.Need-cast-top Inv-loop μ-loop Inv-walk μ-walk
+cast-top c = omega (arith, c .before .pre .3)
+
+shl-top : tie.Need-shl-top Inv-loop μ-loop Inv-walk μ-walk
+shl-top c = omega (arith, c .before .pre .3)
+
+sub-top : tie.Need-sub-top Inv-loop μ-loop Inv-walk μ-walk
+sub-top c = rw (top-is (c .before .args .clusters * c .before .args .size) (c .before .pre .3)) (omega (arith, pow-pos (c .before .args .clusters * c .before .args .size)))
+
+cast-top-2 : tie.Need-cast-top-2 Inv-loop μ-loop Inv-walk μ-walk
+cast-top-2 c = rw (top-is (c .before .args .clusters * c .before .args .size) (c .before .pre .3)) (omega (arith, pow-pos (c .before .args .clusters * c .before .args .size), pow-mono (c .before .pre .3)))
+
+walk-holds : tie.Need-walk-holds Inv-loop μ-loop Inv-walk μ-walk
+walk-holds c =
+    let a = c .before .args in
+    let n : ℕ = a .clusters * a .size in (
+      pow-pos n,
+      record { size = c .before .pre .0; base = refl; above = λ j l o. absurd (omega arith) },
+      ap (firstHit (hit (plan (a .clusters) (a .size) (a .limit) (a .cols) (a .q)) (base (a .clusters) (a .size) (a .cols) (a .levels .now)))) (ap (λ (k : ℕ). pairsFrom n (a .limit) (a .clusters) k 0) (sub-zero (2 ^ n)) ∙ pairs-are (a .clusters) (a .size) (a .limit)),
+    )
+
+cast-k : tie.Need-cast-k Inv-loop μ-loop Inv-walk μ-walk
+cast-k c = omega (arith, ones-le 16 (c .walk .g) (small c))
+
+cast-i : tie.Need-cast-i Inv-loop μ-loop Inv-walk μ-walk
+cast-i c = omega (arith, trailing-le 16 (c .before .before .walk .g))
+
+descend-requires : tie.Need-descend-requires Inv-loop μ-loop Inv-walk μ-walk
+descend-requires c κs =
+    let d = c .before .before .before in
+    let s = d .before .before in
+    (d .walk .inv .1 .size, rows-few s, s .pre .4, omega (arith, low-ones 16 (d .walk .g) (pos-of-ne-zero (c .before .if2 .taken)) (small d)), ones-le 16 (d .walk .g) (small d))
+
+loop-holds : tie.Need-loop-holds Inv-loop μ-loop Inv-walk μ-walk
+loop-holds c =
+    let a = c .before .before .before .before .args in
+    let g : ℕ = c .before .before .walk .g in
+    let R : List Pair = rest (a .clusters) (a .size) (a .limit) g in
+    let k : a .clusters + 2 - 1 ≡ a .clusters + 1 = omega arith in (
+      omega arith,
+      omega arith,
+      ap (λ (l : List ℕ). firstHit (hit (plan (a .clusters) (a .size) (a .limit) (a .cols) (a .q)) (base (a .clusters) (a .size) (a .cols) (c .if2 .levels))) (map (pairOf g) l ++ R))
+          (ap (λ (n : ℕ). observersFrom (a .clusters) n 1) k ∙ observers-are (a .clusters))
+          ∙ subst (λ (X : List ℕ). firstHit (hit (plan (a .clusters) (a .size) (a .limit) (a .cols) (a .q)) X) (map (pairOf g) (observers (a .clusters)) ++ R) ≡ walked (plan (a .clusters) (a .size) (a .limit) (a .cols) (a .q)) X) (sym (full c .base)) (kept (c .before)),
+    )
+
+rem-observer : tie.Need-rem-observer Inv-loop μ-loop Inv-walk μ-walk
+rem-observer c = omega arith
+
+leaks-to-requires : tie.Need-leaks-to-requires Inv-loop μ-loop Inv-walk μ-walk
+leaks-to-requires c κs =
+    let s = c .before .before .before .before .before .before .before in
+    let w : ℕ = c .before .before .loop .w in
+    (full (c .before .before .before) .size, s .pre .1, s .pre .2, s .pre .3, s .pre .4, omega (arith, mod-lt w {m = s .args .clusters + 1} (omega arith)))
+
+add-w : tie.Need-add-w Inv-loop μ-loop Inv-walk μ-walk
+add-w c = omega (arith, c .before .before .before .loop-test .taken, c .before .before .before .before .before .before .before .before .before .pre .1)
+
+loop-less : tie.Need-loop-less Inv-loop μ-loop Inv-walk μ-walk
+loop-less c = omega (arith, c .before .before .before .loop-test .taken)
+
+loop-again : tie.Need-loop-again Inv-loop μ-loop Inv-walk μ-walk
+loop-again c =
+    let d = c .before .before .before .before .before in
+    let a = d .before .before .before .before .args in
+    let g : ℕ = d .before .before .walk .g in
+    let w : ℕ = c .before .before .before .before .loop .w in
+    let f = hit (plan (a .clusters) (a .size) (a .limit) (a .cols) (a .q)) (base (a .clusters) (a .size) (a .cols) (d .if2 .levels)) in
+    let R : List Pair = rest (a .clusters) (a .size) (a .limit) g in
+    let h = c .before .before .before .loop-test .taken in (
+      omega arith,
+      omega (arith, h),
+      sym (miss-first f g R (w % (a .clusters + 1)) (observersFrom (a .clusters) (a .clusters + 2 - (w + 1)) (w + 1)) (sym (tested (c .before)) ∙ c .if3 .left))
+          ∙ ap (λ (l : List ℕ). firstHit f (map (pairOf g) l ++ R)) (sym (observers-next (a .clusters) w h))
+          ∙ c .before .before .before .before .loop .inv .2,
+    )
+
+add-g : tie.Need-add-g Inv-loop μ-loop Inv-walk μ-walk
+add-g c = omega (arith, more c, pow-mono (c .before .before .before .before .pre .3))
+
+walk-less : tie.Need-walk-less Inv-loop μ-loop Inv-walk μ-walk
+walk-less c = omega (arith, more c)
+
+walk-again : tie.Need-walk-again Inv-loop μ-loop Inv-walk μ-walk
+walk-again c = (more c, to-next _ _ _ _ _ _ _ (joined (c .before)), over (c .before))
+
+same-length : tie.Need-same-length Inv-loop μ-loop Inv-walk μ-walk
+same-length c = full (c .before .before .before .before .before) .size ∙ sym (c .before .before .before .before .before .before .before .before .before .pre .0)
+
+returns : tie.Need-returns Inv-loop μ-loop Inv-walk μ-walk
+returns c =
+    let d = c .before .before .before .before .before in
+    let a = d .before .before .before .before .args in
+    let g : ℕ = d .before .before .walk .g in
+    let w : ℕ = c .before .before .before .before .loop .w in
+    let f = hit (plan (a .clusters) (a .size) (a .limit) (a .cols) (a .q)) (base (a .clusters) (a .size) (a .cols) (d .if2 .levels)) in
+    let R : List Pair = rest (a .clusters) (a .size) (a .limit) g in
+    sym (hit-first f g R (w % (a .clusters + 1)) (observersFrom (a .clusters) (a .clusters + 2 - (w + 1)) (w + 1)) (sym (tested (c .before)) ∙ c .if3 .taken))
+    ∙ ap (λ (l : List ℕ). firstHit f (map (pairOf g) l ++ R)) (sym (observers-next (a .clusters) w (c .before .before .before .loop-test .taken)))
+    ∙ c .before .before .before .before .loop .inv .2
+    ∙ ap (walked (plan (a .clusters) (a .size) (a .limit) (a .cols) (a .q))) (full d .base)
+
+same-length-2 : tie.Need-same-length-2 Inv-loop μ-loop Inv-walk μ-walk
+same-length-2 c = joined (c .before) .size ∙ sym (c .before .before .before .before .pre .0)
+
+returns-2 : tie.Need-returns-2 Inv-loop μ-loop Inv-walk μ-walk
+returns-2 c =
+    let d = c .before .before .before .before in
+    let a = d .args in
+    let n : ℕ = a .clusters * a .size in
+    let g : ℕ = c .before .before .walk .g in
+    let e : 1 * 2 ^ n % 2 ^ 32 ≡ 2 ^ n = top-is n (d .pre .3) in
+    let l : g ≡ 2 ^ n - 1 = c .if4 .taken ∙ ap (λ (k : ℕ). k - 1) e in
+    let f = hit (plan (a .clusters) (a .size) (a .limit) (a .cols) (a .q)) (base (a .clusters) (a .size) (a .cols) (a .levels .now)) in
+    sym (ap (firstHit f) (pairs-end n (a .limit) (a .clusters) (2 ^ n - (g + 1)) (g + 1) (omega (arith, pow-pos n))) ∙ hit-none f)
+    ∙ over (c .before)
+
+pub walk-levels-spec : {M : Type 1} → statement M
+walk-levels-spec =
+    tie.close
+    (tie.spec
+    Inv-loop
+    μ-loop
+    Inv-walk
+    μ-walk
+    mul-users
+    add-rows
+    cast-last
+    add-last
+    cast-top
+    shl-top
+    sub-top
+    cast-top-2
+    walk-holds
+    cast-k
+    cast-i
+    descend-requires
+    loop-holds
+    rem-observer
+    leaks-to-requires
+    add-w
+    loop-less
+    loop-again
+    add-g
+    walk-less
+    walk-again
+    same-length
+    returns
+    same-length-2
+    returns-2)

@@ -1,0 +1,44 @@
+-- The verdict on a plan and its key table. Document 01, "Order": "The vet: 1, 4, 2, 3, 6, 7."
+use Prim.Native.Nat.{ℕ, _+_, _*_, _%_}
+use mathlib.Core.Bool.{Bool, not}
+use mathlib.Core.List.{List, [], _∷_, _++_, map}
+use lib.Dec.{eqb}
+use lib.ListN.{length}
+use Rattle.refusals.specs.declared.Code.{Code}
+use Rattle.refusals.specs.Codes.{code, firstOf}
+use Rattle.arithmetic.specs.Primes.{isPrime, allBelow}
+use Rattle.matrices.specs.Linear.{at}
+use Rattle.secrecy.specs.Lists.{tab}
+use Rattle.secrecy.specs.Counts.{sumTo}
+use Rattle.secrecy.specs.Leaks.{leaks}
+use Rattle.vetting.specs.declared.Plan.{Plan}
+use Rattle.vetting.specs.declared.Pair.{Pair}
+use Rattle.vetting.specs.Plans.{poolOf, usersOf, inBounds}
+use Rattle.vetting.specs.Walk.{pairs}
+
+-- the sum of column k of the key table
+unfoldable pub columnSum : Plan → List ℕ → ℕ → ℕ
+columnSum P K k = sumTo (usersOf P) (λ i. at K (i * P .rate + k)) % P .q
+
+-- 6 names the first column whose sum is not zero, from 1
+abbrev pub columnCheck : Plan → List ℕ → ℕ → Bool × Code
+columnCheck P K k = (not (eqb (columnSum P K k) 0), record { number = 6; first = k + 1; second = 0 })
+
+-- 7 names the first pair that leaks
+abbrev pub leakCheck : Plan → List ℕ → Pair → Bool × Code
+leakCheck P K pair = (leaks (poolOf P K) (pair .coalition) (pair .observer), record { number = 7; first = pair .coalition; second = pair .observer })
+
+-- the checks before 7, and all
+abbrev pub otherChecks : Plan → List ℕ → List (Bool × Code)
+otherChecks P K =
+    (not (inBounds P), code 1)
+    ∷ (not (eqb (length K) (usersOf P * P .rate)), code 4)
+    ∷ (not (isPrime (P .q)), code 2)
+    ∷ (not (allBelow (P .q) K), code 3)
+    ∷ map (columnCheck P K) (tab (P .rate) (λ k. k))
+
+abbrev pub vetChecks : Plan → List ℕ → List (Bool × Code)
+vetChecks P K = otherChecks P K ++ map (leakCheck P K) (pairs (P .clusters) (P .size) (P .limit))
+
+abbrev pub verdict : Plan → List ℕ → Code
+verdict P K = firstOf (vetChecks P K)

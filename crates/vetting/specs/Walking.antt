@@ -1,0 +1,107 @@
+-- What the private functions of the vet compute. Nothing here has to be believed: proofs tie it to the verdict.
+-- The vet keeps a reduced table for each depth of a coalition: level k holds the key table, and the sums of its clusters below it, eliminated by the
+-- rows of a coalition of k members.
+use Prim.Native.Nat.{ℕ, zero, suc, _+_, _-_, _*_, _/_, _%_, _^_}
+use mathlib.Core.Bool.{Bool, cond, not, _&&_}
+use mathlib.Core.List.{List, [], _∷_, _++_}
+use lib.Dec.{eqb}
+use lib.ListN.{take, drop}
+use Rattle.matrices.specs.Linear.{at}
+use Rattle.matrices.specs.Tables.{rowOf, eliminated, pivotsFrom}
+use Rattle.secrecy.specs.Lists.{tab, joinTo, picked}
+use Rattle.secrecy.specs.Counts.{sumTo, howMany}
+use Rattle.secrecy.specs.Model.{inCoalition}
+use Rattle.refusals.specs.declared.Code.{Code}
+use Rattle.refusals.specs.Codes.{accepted}
+use Rattle.vetting.specs.declared.Plan.{Plan}
+use Rattle.vetting.specs.declared.Pair.{Pair}
+use Rattle.vetting.specs.declared.Found.{Found}
+use Rattle.vetting.specs.declared.Found.the-variants.{At, Nothing}
+use Rattle.vetting.specs.Plans.{usersOf}
+use Rattle.vetting.specs.Walk.{pairs}
+
+-- ---- the table of level 0
+
+unfoldable pub clusterSum : ℕ → ℕ → ℕ → List ℕ → ℕ → ℕ → ℕ
+clusterSum q size rate K u k = sumTo size (λ v. at K ((u * size + v) * rate + k)) % q
+
+unfoldable pub baseTable : Plan → List ℕ → List ℕ
+baseTable P K = K ++ joinTo (P .clusters) (λ u. tab (P .rate) (clusterSum (P .q) (P .size) (P .rate) K u))
+
+abbrev pub rowsIn : Plan → ℕ
+rowsIn P = usersOf P + P .clusters
+
+-- ---- levels, 384 symbols apart
+
+abbrev pub levelAt : ℕ → List ℕ → ℕ → List ℕ
+levelAt size L d = take size (drop (d * 384) L)
+
+-- level k becomes level k - 1 eliminated by row i
+abbrev pub descended : ℕ → ℕ → ℕ → ℕ → ℕ → List ℕ → List ℕ
+descended q rows cols k i L =
+    take (k * 384) L ++ (eliminated q rows cols i (levelAt (rows * cols) L (k - 1)) ++ drop (k * 384 + rows * cols) L)
+
+-- the members of g among the k users from i on, rising
+unfoldable pub membersFrom : ℕ → ℕ → ℕ → List ℕ
+membersFrom zero i g = []
+membersFrom (suc k) i g = cond (inCoalition g i) (i ∷ membersFrom k (i + 1) g) (membersFrom k (i + 1) g)
+
+-- the table eliminated by the last of some rows, and so on to the first
+unfoldable pub reducedBy : ℕ → ℕ → ℕ → List ℕ → List ℕ → List ℕ
+reducedBy q rows cols [] T = T
+reducedBy q rows cols (i ∷ is) T = eliminated q rows cols i (reducedBy q rows cols is T)
+
+abbrev pub tableOf : ℕ → ℕ → ℕ → List ℕ → ℕ → List ℕ
+tableOf q rows cols T g = reducedBy q rows cols (membersFrom 16 0 g) T
+
+-- ---- the rows that an observer watches
+
+-- those of a mask outside another
+abbrev pub chosen : ℕ → ℕ → ℕ → Bool
+chosen watch skip i = inCoalition watch i && not (inCoalition skip i)
+
+-- do they depend on each other?
+unfoldable pub dependent : ℕ → ℕ → ℕ → ℕ → ℕ → List ℕ → Bool
+dependent q rows cols watch skip T =
+    let n : ℕ = howMany rows (chosen watch skip) in
+    not (eqb (pivotsFrom q n cols n 0 (picked rows (chosen watch skip) (rowOf cols T))) n)
+
+-- the users of cluster u
+abbrev pub clusterMask : ℕ → ℕ → ℕ
+clusterMask size u = (2 ^ size - 1) * 2 ^ (u * size)
+
+-- is cluster u not wholly in the coalition?
+abbrev pub openTo : ℕ → ℕ → ℕ → Bool
+openTo size g u = not (eqb (g / 2 ^ (u * size) % 2 ^ size) (2 ^ size - 1))
+
+-- the open clusters below k, as bits; and those of them before the last
+unfoldable pub openMask : ℕ → ℕ → ℕ → ℕ
+openMask size g k = sumTo k (λ u. cond (openTo size g u) (2 ^ u) 0)
+
+unfoldable pub testedMask : ℕ → ℕ → ℕ → ℕ
+testedMask size g zero = 0
+testedMask size g (suc k) = cond (openTo size g k) (openMask size g k) (testedMask size g k)
+
+-- the rows of observer w: users of its cluster, or sums of clusters
+abbrev pub watchMask : ℕ → ℕ → ℕ → ℕ → ℕ
+watchMask clusters size g zero = testedMask size g clusters * 2 ^ (clusters * size)
+watchMask clusters size g (suc u) = clusterMask size u
+
+-- ---- the walk
+
+-- do the rows that w watches, outside g, depend on each other over the rows of g?
+abbrev pub hit : Plan → List ℕ → ℕ → ℕ → Bool
+hit P T g w =
+    dependent (P .q) (rowsIn P) (P .rate) (watchMask (P .clusters) (P .size) g w) g (tableOf (P .q) (rowsIn P) (P .rate) T g)
+
+unfoldable pub firstHit : (ℕ → ℕ → Bool) → List Pair → Found
+firstHit f [] = Nothing
+firstHit f (p ∷ l) = cond (f (p .coalition) (p .observer)) (At p) (firstHit f l)
+
+abbrev pub walked : Plan → List ℕ → Found
+walked P T = firstHit (hit P T) (pairs (P .clusters) (P .size) (P .limit))
+
+-- the code of what the walk finds
+abbrev pub foundCode : Found → Code
+foundCode (At p) = record { number = 7; first = p .coalition; second = p .observer }
+foundCode Nothing = accepted

@@ -1,0 +1,34 @@
+// Vetting: plans, their records, the exact verdict on secrecy, the table maker and individual keys.
+mod bounds;
+mod walk;
+
+use arithmetic::Symbol;
+pub use bounds::counts_fit;
+use refusals::Refusal;
+
+// U clusters of V users each, a coalition limit T, R source symbols a position, and a prime q. Key tables are lent beside it.
+pub struct Plan {
+    pub clusters: usize,
+    pub size: usize,
+    pub limit: usize,
+    pub rate: usize,
+    pub q: Symbol,
+}
+
+// What the plan's constructor answers.
+pub enum Planned {
+    Made(Plan),
+    Refused(Refusal),
+}
+
+// A coalition, and an observer: relay 1 to U, or 0 for the server.
+pub struct Pair {
+    pub coalition: u16,
+    pub observer: u16,
+}
+
+// What the walk finds: the first pair that leaks.
+pub enum Found {
+    At(Pair),
+    Nothing,
+}

@@ -1,0 +1,223 @@
+// The walk over coalitions and observers, with one reduced table for each depth of a coalition.
+ghost use mathlib.Core.Path.{_≡_};
+ghost use Prim.Native.Nat.{_+_, _*_, _≤_, _<_, _^_};
+ghost use mathlib.Core.Bool.{true};
+ghost use mathlib.Core.List.{_++_};
+ghost use lib.Count.{ones};
+ghost use lib.ListN.{length, take, drop};
+ghost use lib.Seq.{paste};
+ghost use Rattle.matrices.specs.Tables.{rowOf};
+ghost use Rattle.secrecy.specs.Lists.{picked};
+ghost use Rattle.secrecy.specs.Counts.{howMany};
+ghost use Rattle.vetting.specs.Plans.{plan};
+ghost use Rattle.vetting.specs.Walking.{chosen, clusterMask, openTo, testedMask, watchMask, levelAt, descended, dependent, walked};
+use crate::Found;
+use crate::Pair;
+use crate::Plan;
+use arithmetic::Symbol;
+use matrices::copy;
+use matrices::eliminate;
+use matrices::reduce_rows;
+
+// Whether `watch` has bit i and `skip` doesn't.
+fn is_chosen(watch: u32, skip: u32, i: u32) -> bool
+    requires { ⌜ i < 32 ⌝ }
+    ensures { λ r. ⌜ r ≡ chosen watch skip i ⌝ }
+{
+    if (watch >> i) & 1 == 1 {
+        (skip >> i) & 1 != 1
+    } else {
+        false
+    }
+}
+
+// The users of cluster u.
+fn cluster_mask(size: u32, u: u32) -> u32
+    requires { ⌜ (size ≤ 8) × (u * size + size ≤ 16) ⌝ }
+    ensures { λ r. ⌜ r ≡ clusterMask size u ⌝ }
+{
+    ((1 << size) - 1) << (u * size)
+}
+
+// Whether cluster u is not wholly in the coalition.
+fn is_open(size: u32, g: u32, u: u32) -> bool
+    requires { ⌜ (size ≤ 8) × (u * size + size ≤ 16) ⌝ }
+    ensures { λ r. ⌜ r ≡ openTo size g u ⌝ }
+{
+    let all: u32 = (1 << size) - 1;
+    (g >> (u * size)) & all != all
+}
+
+// The open clusters but the last: the table's zero sum settles that one.
+fn tested_mask(clusters: u32, size: u32, g: u32) -> u32
+    requires { ⌜ (clusters ≤ 8) × (size ≤ 8) × (clusters * size ≤ 16) ⌝ }
+    ensures { λ r. ⌜ r ≡ testedMask size g clusters ⌝ }
+    ensures { λ r. ⌜ r < 2 ^ clusters ⌝ }
+{
+    let mut seen: u32 = 0;
+    let mut tested: u32 = 0;
+    let mut u: u32 = 0;
+    while u < clusters {
+        if is_open(size, g, u) {
+            tested = seen;
+            seen = seen + (1 << u);
+        }
+        u += 1;
+    }
+    tested
+}
+
+// The rows that an observer watches: users of its cluster, or for the server sums of clusters, which stand after the users.
+fn watch_mask(clusters: u32, size: u32, g: u32, w: u32) -> u32
+    requires { ⌜ (clusters ≤ 8) × (size ≤ 8) × (clusters * size ≤ 16) × (w ≤ clusters) ⌝ }
+    ensures { λ r. ⌜ r ≡ watchMask clusters size g w ⌝ }
+{
+    if w == 0 {
+        tested_mask(clusters, size, g) << (clusters * size)
+    } else {
+        cluster_mask(size, w - 1)
+    }
+}
+
+// n symbols from a on are put at b, which lies after them.
+fn copy_down(levels: &mut [Symbol], a: usize, b: usize, n: usize)
+    requires { ⌜ (a + n ≤ b) × (b + n ≤ length (now levels)) ⌝ }
+    ensures { λ _. ⌜ now (levels .exit) ≡ paste (now (levels .entry)) b (drop a (now (levels .entry))) n ⌝ }
+{
+    let mut j = 0;
+    while j < n {
+        levels[b + j] = levels[a + j];
+        j += 1;
+    }
+}
+
+// Level k becomes level k - 1 eliminated by row i.
+fn descend(q: Symbol, rows: usize, cols: usize, k: usize, i: usize, levels: &mut [Symbol])
+    requires { ⌜ (length (now levels) ≡ 6528) × (rows ≤ 24) × (cols ≤ 16) × (0 < k) × (k ≤ 16) ⌝ }
+    ensures { λ _. ⌜ now (levels .exit) ≡ descended q rows cols k i (now (levels .entry)) ⌝ }
+{
+    let n = rows * cols;
+    let b = k * 384;
+    let a = b - 384;
+    let e = b + n;
+    copy_down(levels, a, b, n);
+    eliminate(q, rows, cols, i, &mut levels[b..e]);
+}
+
+// Row i of a table is put at row n of another.
+fn copy_row(cols: usize, i: usize, n: usize, table: &[Symbol], out: &mut [Symbol])
+    requires { ⌜ (i * cols + cols ≤ length (now table)) × (n * cols + cols ≤ length (now out)) ⌝ }
+    ensures { λ _. ⌜ now (out .exit) ≡ take (n * cols) (now (out .entry)) ++ (rowOf cols (now (table .entry)) i ++ drop (n * cols + cols) (now (out .entry))) ⌝ }
+{
+    let a = i * cols;
+    let ae = a + cols;
+    let b = n * cols;
+    let be = b + cols;
+    copy(&table[a..ae], &mut out[b..be]);
+}
+
+// Puts the rows that `watch` names and `skip` doesn't one after the other; how many they are.
+fn gather(
+    rows: usize,
+    cols: usize,
+    watch: u32,
+    skip: u32,
+    table: &[Symbol],
+    out: &mut [Symbol],
+) -> usize
+    requires { ⌜ (rows ≤ 24) × (cols ≤ 16) × (rows * cols ≡ length (now table)) × (rows * cols ≤ length (now out)) ⌝ }
+    ensures { λ r. ⌜ (r ≡ howMany rows (chosen watch skip)) × (take (r * cols) (now (out .exit)) ≡ picked rows (chosen watch skip) (rowOf cols (now (table .entry)))) ⌝ }
+{
+    let mut n: usize = 0;
+    let mut i: usize = 0;
+    while i < rows {
+        if is_chosen(watch, skip, i as u32) {
+            copy_row(cols, i, n, table, out);
+            n += 1;
+        }
+        i += 1;
+    }
+    n
+}
+
+// Whether those rows depend on each other.
+fn are_dependent(
+    q: Symbol,
+    rows: usize,
+    cols: usize,
+    watch: u32,
+    skip: u32,
+    table: &[Symbol],
+) -> bool
+    requires { ⌜ (rows ≤ 24) × (cols ≤ 16) × (rows * cols ≡ length (now table)) ⌝ }
+    ensures { λ r. ⌜ r ≡ dependent q rows cols watch skip (now (table .entry)) ⌝ }
+{
+    let mut s = [0u16; 384];
+    let n = gather(rows, cols, watch, skip, table, &mut s);
+    let m = n * cols;
+    reduce_rows(q, n, cols, &mut s[..m]) != n
+}
+
+// Whether the rows that an observer watches depend on each other over those of the coalition g, whose table stands on its level.
+fn leaks_to(
+    q: Symbol,
+    clusters: usize,
+    size: usize,
+    cols: usize,
+    g: u16,
+    w: u16,
+    levels: &[Symbol],
+) -> bool
+    requires { ⌜ (length (now levels) ≡ 6528) × (clusters ≤ 8) × (size ≤ 8) × (clusters * size ≤ 16) × (cols ≤ 16) × (w ≤ clusters) ⌝ }
+    ensures { λ r. ⌜ r ≡ dependent q (clusters * size + clusters) cols (watchMask clusters size g w) g (levelAt ((clusters * size + clusters) * cols) (now (levels .entry)) (ones g)) ⌝ }
+{
+    let rows = clusters * size + clusters;
+    let watch = watch_mask(clusters as u32, size as u32, g as u32, w as u32);
+    let b = u16::count_ones(g) as usize * 384;
+    let e = b + rows * cols;
+    are_dependent(q, rows, cols, watch, g as u32, &levels[b..e])
+}
+
+// The first pair whose rows depend on each other: coalitions in rising number, then relays 1 to U, then the server. A coalition's lowest member is
+// its last: without it the coalition has a smaller number, was met before, and still stands on the level below.
+fn walk_levels(
+    q: Symbol,
+    clusters: usize,
+    size: usize,
+    limit: usize,
+    cols: usize,
+    levels: &mut [Symbol],
+) -> Found
+    requires { ⌜ (length (now levels) ≡ 6528) × (clusters ≤ 8) × (size ≤ 8) × (clusters * size ≤ 16) × (cols ≤ 16) ⌝ }
+    ensures { λ r. ⌜ r ≡ walked (plan clusters size limit cols q) (take ((clusters * size + clusters) * cols) (now (levels .entry))) ⌝ }
+{
+    let users = clusters * size;
+    let rows = users + clusters;
+    let last = clusters as u16 + 1;
+    let top: u16 = ((1u32 << users as u32) - 1) as u16;
+    let mut g: u16 = 0;
+    'walk: loop {
+        let k = u16::count_ones(g) as usize;
+        if k <= limit {
+            if g != 0 {
+                let i = u16::trailing_zeros(g) as usize;
+                descend(q, rows, cols, k, i, levels);
+            }
+            let mut w: u16 = 1;
+            while w <= last {
+                let observer = w % last;
+                if leaks_to(q, clusters, size, cols, g, observer, levels) {
+                    break 'walk Found::At(Pair {
+                        coalition: g,
+                        observer,
+                    });
+                }
+                w += 1;
+            }
+        }
+        if g == top {
+            break 'walk Found::Nothing;
+        }
+        g += 1;
+    }
+}
