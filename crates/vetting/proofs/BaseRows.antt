@@ -24,6 +24,7 @@ use Rattle.vetting.specs.declared.Plan.{Plan}
 use Rattle.vetting.specs.Plans.{poolOf, usersOf}
 use Rattle.vetting.specs.Walking.{clusterSum, baseTable, rowsIn}
 use Rattle.vetting.proofs.PlanBounds.{Bounds}
+use Rattle.vetting.proofs.BaseLaws.{length-join}
 use Rattle.vetting.proofs.GatherLaws.{row-length, room}
 
 -- ---- rows joined
@@ -34,11 +35,6 @@ row-front cols A B j h =
     ap (take cols) (drop-append-le (j * cols) A B (omega arith)) ∙ take-append-le cols (drop (j * cols) A) B (omega (arith, length-drop (j * cols) A))
 
 module _ (cols : ℕ) (f : ℕ → List ℕ) (each : (u : ℕ) → length (f u) ≡ cols) where
-  pub length-join : (n : ℕ) → length (joinTo n f) ≡ n * cols
-  unfolding joinTo
-  length-join zero = omega arith
-  length-join (suc n) = omega (arith, length-append (joinTo n f) (f n), length-join n, each n)
-
   pub row-join : (n u : ℕ) → u < n → rowOf cols (joinTo n f) u ≡ f u
   unfolding joinTo
   row-join zero u h = absurd (omega arith)
@@ -46,13 +42,13 @@ module _ (cols : ℕ) (f : ℕ → List ℕ) (each : (u : ℕ) → length (f u) 
     where
       go : Dec (u ≡ n) → (u < n → rowOf cols (joinTo n f) u ≡ f u) → rowOf cols (joinTo n f ++ f n) u ≡ f u
       go (yes e) ih =
-          let z : u * cols ≡ length (joinTo n f) = omega (arith, length-join n, ap (λ (x : ℕ). x * cols) e) in
+          let z : u * cols ≡ length (joinTo n f) = omega (arith, length-join f cols n each, ap (λ (x : ℕ). x * cols) e) in
           ap (λ (x : ℕ). take cols (drop x (joinTo n f ++ f n))) z
           ∙ ap (take cols) (drop-at (joinTo n f) (f n) (length (joinTo n f)) refl)
           ∙ sym (ap (take cols) (append-nil (f n)))
           ∙ take-at (f n) [] cols (each n)
           ∙ ap f (sym e)
-      go (no d) ih = row-front cols (joinTo n f) (f n) u (room n cols u (length (joinTo n f)) (omega arith) (omega (arith, length-join n))) ∙ ih (omega arith)
+      go (no d) ih = row-front cols (joinTo n f) (f n) u (room n cols u (length (joinTo n f)) (omega arith) (omega (arith, length-join f cols n each))) ∙ ih (omega arith)
 
 -- ---- the rows of the base table
 
@@ -106,7 +102,7 @@ module _ (P : Plan) (K : List ℕ) (symbols : length K ≡ usersOf P * P .rate) 
           arith,
           length-append K sums,
           symbols,
-          length-join (P .rate) (λ u. tab (P .rate) (clusterSum (P .q) (P .size) (P .rate) K u)) each-sum (P .clusters),
+          length-join (λ u. tab (P .rate) (clusterSum (P .q) (P .size) (P .rate) K u)) (P .rate) (P .clusters) each-sum,
         );
         valid = λ j l. go j l (decLt j (usersOf P));
       }

@@ -2,11 +2,11 @@
 use mathlib.Core.Path.{_≡_, refl, sym, ap, ap₂, _∙_, subst}
 use mathlib.Core.Logic.{_↔_, Dec·not-not}
 use mathlib.Core.Bool.{Bool, true, false, cond}
-use mathlib.Core.List.{List, [], _∷_, _++_, map, map-append}
+use mathlib.Core.List.{List, [], _∷_, map}
 use Prim.Native.Nat.{ℕ, zero, suc, _+_, _*_, _^_, _≤_, _<_}
 use native.Mathlib.Decide.{decLt}
 use native.Mathlib.Omega.{arith}
-use lib.Dec.{T, leb}
+use lib.Dec.{T}
 use lib.ListN.{length}
 use Rattle.refusals.specs.declared.Code.{Code}
 use Rattle.refusals.specs.Codes.{accepted, firstOf}
@@ -15,11 +15,9 @@ use Rattle.arithmetic.proofs.Searches.{T-ext, T-decide, true→T, false→not-T
 use Rattle.arithmetic.proofs.PrimeLaws.{prime-pos, below-at}
 use Rattle.matrices.specs.Linear.{All, Vector, Independent}
 use Rattle.matrices.specs.Tables.{rowOf}
-use Rattle.matrices.proofs.Vectors.{all-append, all-map}
+use Rattle.matrices.proofs.Vectors.{all-map}
 use Rattle.matrices.proofs.Elimination.{Table}
-use Rattle.secrecy.specs.Lists.{tab, joinTo, picked}
-use Rattle.secrecy.specs.Counts.{howMany}
-use Rattle.secrecy.specs.Model.{Pool, users, inCoalition, inCluster}
+use Rattle.secrecy.specs.Model.{inCoalition, inCluster}
 use Rattle.secrecy.specs.Leaks.{leaks, PairLeak}
 use Rattle.secrecy.proofs.RankCondition.{outside, tested, row, sumRow, coalitionRows, watchedRows, ZeroSum}
 use Rattle.secrecy.proofs.Verdicts.{leaks-iff, pair-iff}
@@ -27,47 +25,16 @@ use Rattle.vetting.specs.declared.Plan.{Plan}
 use Rattle.vetting.specs.declared.Pair.{Pair}
 use Rattle.vetting.specs.declared.Found.the-variants.{At}
 use Rattle.vetting.specs.Plans.{poolOf, usersOf, inBounds}
-use Rattle.vetting.specs.Walk.{observers, pairs}
+use Rattle.vetting.specs.Walk.{pairs}
 use Rattle.vetting.specs.Verdict.{columnSum, leakCheck}
 use Rattle.vetting.specs.Walking.{baseTable, rowsIn, watchMask, chosen, hit, firstHit, walked, foundCode}
 use Rattle.vetting.proofs.BitLaws.{bit-above}
 use Rattle.vetting.proofs.PlanBounds.{Bounds, bounds-known}
+use Rattle.vetting.proofs.PairLists.{InWalk, pairs-in}
 use Rattle.vetting.proofs.PickedLaws.{picked-cong}
 use Rattle.vetting.proofs.ReducedTables.{table-iff, ofCoalition}
 use Rattle.vetting.proofs.WatchLaws.{server-watches, relay-watches, watchedBy}
 use Rattle.vetting.proofs.BaseRows.{base-row, base-sum, base-table}
-
--- ---- the pairs of the walk
-
--- a coalition of the users, and an observer
-abbrev Walked : Plan → Pair → Type 0
-Walked P pair = (pair .coalition < 2 ^ usersOf P) × (pair .observer ≤ P .clusters)
-
-module _ {A : Type 0} (Q : A → Type 0) where
-  all-tab : (n : ℕ) (f : ℕ → ℕ) (h : ℕ → A) → ((k : ℕ) → k < n → Q (h (f k))) → All Q (map h (tab n f))
-  unfolding tab
-  all-tab zero f h a = tt
-  all-tab (suc n) f h a = (a 0 (omega arith), all-tab n (λ k. f (suc k)) h (λ k l. a (suc k) (omega arith)))
-
-  all-lists : (n : ℕ) (b : ℕ → Bool) (f : ℕ → List A) → ((i : ℕ) → i < n → All Q (f i)) → All Q (picked n b f)
-  unfolding picked joinTo
-  all-lists zero b f h = tt
-  all-lists (suc n) b f h = all-append Q (picked n b f) (cond (b n) (f n) []) (all-lists n b f (λ i l. h i (omega arith))) (go (b n))
-    where
-      go : (t : Bool) → All Q (cond t (f n) [])
-      go true = h n (omega arith)
-      go false = tt
-
-pairs-walked : (P : Plan) → All (Walked P) (pairs (P .clusters) (P .size) (P .limit))
-unfolding pairs observers
-pairs-walked P =
-    all-lists (Walked P) (2 ^ usersOf P) (λ g. leb (howMany (usersOf P) (inCoalition g)) (P .limit))
-    (λ g. map (λ w. record { coalition = g; observer = w }) (observers (P .clusters)))
-    (λ g l.
-    subst (All (Walked P)) (sym (map-append (λ w. record { coalition = g; observer = w }) (tab (P .clusters) suc) (0 ∷ [])))
-    (all-append (Walked P) (map (λ w. record { coalition = g; observer = w }) (tab (P .clusters) suc)) (record { coalition = g; observer = 0 } ∷ [])
-    (all-tab (Walked P) (P .clusters) suc (λ w. record { coalition = g; observer = w }) (λ k m. (l, m)))
-    ((l, omega arith), tt)))
 
 -- a walk with the test of leaking finds what the order of refusals names
 first-leak : (P : Plan) (K : List ℕ) (f : ℕ → ℕ → Bool) (l : List Pair)
@@ -145,6 +112,6 @@ found-verdict P K b l p s z =
     let valid : Vector (P .q) (usersOf P * P .rate) K
     = record { size = l; small = λ i k. below-at (P .q) K (prime-pos p) (true→T (allBelow (P .q) K) s) i } in
     first-leak P K (hit P (baseTable P K)) (pairs (P .clusters) (P .size) (P .limit))
-    (all-map (Walked P) (λ x. hit P (baseTable P K) (x .coalition) (x .observer) ≡ leaks (poolOf P K) (x .coalition) (x .observer))
-    (λ x w. decides P K (bounds-known P b) l p valid (zero-sum P K z) (x .coalition) (w .0) (x .observer) (w .1))
-    (pairs (P .clusters) (P .size) (P .limit)) (pairs-walked P))
+    (all-map (λ x. InWalk P (x .coalition) (x .observer)) (λ x. hit P (baseTable P K) (x .coalition) (x .observer) ≡ leaks (poolOf P K) (x .coalition) (x .observer))
+    (λ x w. decides P K (bounds-known P b) l p valid (zero-sum P K z) (x .coalition) (w .users) (x .observer) (w .observer))
+    (pairs (P .clusters) (P .size) (P .limit)) (pairs-in P))

@@ -3,9 +3,27 @@ mod MaskLaws
 mod LevelLaws
 mod GatherLaws
 mod WalkLaws
-mod PlanBounds
+mod BaseLaws
+mod VerdictLaws
+mod Orders
+mod PairLists
+pub mod PlanBounds
 mod PickedLaws
 mod ReducedTables
 mod WatchLaws
 mod BaseRows
 mod Deciding
+pub mod ExactSecrecy
+pub mod PlanLaws
+pub mod KeyLaws
+pub mod MakerLaws
+mod Fronts
+mod RunningSum
+mod MakerSteps
+pub mod RecordLaws
+pub mod RecordChecks
+pub mod Bytes
+mod PlanSizes
+mod Fills
+mod Trailers
+mod RecordExamples

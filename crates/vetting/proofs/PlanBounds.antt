@@ -2,10 +2,11 @@
 use Prim.Native.Nat.{ℕ, _*_, _≤_}
 use mathlib.Core.Path.{_≡_}
 use mathlib.Core.Bool.{true, _&&_}
+use native.Mathlib.Nat.{mul-le-mul}
 use lib.Dec.{leb, leb→le}
 use Rattle.arithmetic.proofs.Searches.{T→true, true→T, T-and}
 use Rattle.vetting.specs.declared.Plan.{Plan}
-use Rattle.vetting.specs.Plans.{countsFit, inBounds}
+use Rattle.vetting.specs.Plans.{usersOf, countsFit, inBounds}
 
 pub record Counts (u v t : ℕ) : Type 0 where
   pub some-clusters : 1 ≤ u
@@ -31,6 +32,9 @@ counts-known u v t e =
       within = leb→le t (u * v) s;
     }
 
+pub some-users : {u v t : ℕ} → Counts u v t → 1 ≤ u * v
+some-users {u} {v} c = mul-le-mul {n₁ = 1} {m₁ = 1} {n₂ = u} {m₂ = v} (c .some-clusters) (c .some-size)
+
 pub record Bounds (P : Plan) : Type 0 where
   pub counts : Counts (P .clusters) (P .size) (P .limit)
   pub some-symbols : 1 ≤ P .rate
@@ -45,3 +49,7 @@ bounds-known P e =
       some-symbols = leb→le 1 (P .rate) s₁;
       few-symbols = leb→le (P .rate) 16 s;
     }
+
+-- a key table has at most 256 symbols
+pub few-numbers : {P : Plan} → Bounds P → usersOf P * P .rate ≤ 16 * 16
+few-numbers {P} b = mul-le-mul {n₁ = usersOf P} {m₁ = P .rate} {n₂ = 16} {m₂ = 16} (b .counts .few-users) (b .few-symbols)

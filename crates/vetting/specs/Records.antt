@@ -2,10 +2,10 @@
 use Prim.Native.Nat.{ℕ, zero, suc, _+_, _-_, _*_, _/_, _%_}
 use mathlib.Core.Bool.{Bool, not, _&&_, _||_}
 use mathlib.Core.List.{List, [], _∷_, _++_}
-use lib.Dec.{leb, ltb, eqb}
-use lib.ListN.{length, take, drop, replicate}
+use lib.Dec.{ltb, eqb}
+use lib.ListN.{length, replicate}
 use Rattle.refusals.specs.declared.Code.{Code}
-use Rattle.refusals.specs.Codes.{code}
+use Rattle.refusals.specs.Codes.{code, firstOf}
 use Rattle.arithmetic.specs.Primes.{isPrime, allBelow}
 use Rattle.matrices.specs.Linear.{at}
 use Rattle.vetting.specs.declared.Plan.{Plan}
@@ -77,6 +77,9 @@ readChecks B out =
     ∷ (not (allBelow (planRead B .q) (tableRead B)), code 3)
     ∷ []
 
+abbrev pub readVerdict : List ℕ → List ℕ → Code
+readVerdict B out = firstOf (readChecks B out)
+
 -- what the lent table holds: the plan's symbols, and 0 past them
 abbrev pub padded : List ℕ → List ℕ
 padded K = K ++ replicate (256 - length K) 0
@@ -91,3 +94,6 @@ writeChecks P K out =
     ∷ (not (allBelow (P .q) K), code 3)
     ∷ (not (eqb (length out) (recordSize P)), code 4)
     ∷ []
+
+abbrev pub writeVerdict : Plan → List ℕ → List ℕ → Code
+writeVerdict P K out = firstOf (writeChecks P K out)

@@ -1,10 +1,20 @@
 // Vetting: plans, their records, the exact verdict on secrecy, the table maker and individual keys.
 mod bounds;
+mod keys;
+mod maker;
+mod records;
+mod verdict;
 mod walk;
 
 use arithmetic::Symbol;
 pub use bounds::counts_fit;
+pub use keys::derive_keys;
+pub use maker::make_table;
+pub use records::READ_TABLE;
+pub use records::read_record;
+pub use records::write_record;
 use refusals::Refusal;
+pub use verdict::vet;
 
 // U clusters of V users each, a coalition limit T, R source symbols a position, and a prime q. Key tables are lent beside it.
 pub struct Plan {
@@ -15,7 +25,7 @@ pub struct Plan {
     pub q: Symbol,
 }
 
-// What the plan's constructor answers.
+// What the plan's constructor, the table maker and the reader of a record answer.
 pub enum Planned {
     Made(Plan),
     Refused(Refusal),

@@ -7,10 +7,10 @@ ghost use lib.Count.{ones};
 ghost use lib.ListN.{length, take, drop};
 ghost use lib.Seq.{paste};
 ghost use Rattle.matrices.specs.Tables.{rowOf};
-ghost use Rattle.secrecy.specs.Lists.{picked};
+ghost use Rattle.secrecy.specs.Lists.{tab, joinTo, picked};
 ghost use Rattle.secrecy.specs.Counts.{howMany};
-ghost use Rattle.vetting.specs.Plans.{plan};
-ghost use Rattle.vetting.specs.Walking.{chosen, clusterMask, openTo, testedMask, watchMask, levelAt, descended, dependent, walked};
+ghost use Rattle.vetting.specs.Plans.{plan, usersOf, inBounds};
+ghost use Rattle.vetting.specs.Walking.{chosen, clusterMask, openTo, testedMask, watchMask, clusterSum, baseTable, levelAt, descended, dependent, walked};
 use crate::Found;
 use crate::Pair;
 use crate::Plan;
@@ -220,4 +220,94 @@ fn walk_levels(
         }
         g += 1;
     }
+}
+
+// Symbol k of the sum of the rows of cluster u.
+pub(crate) fn cluster_sum(
+    q: Symbol,
+    size: usize,
+    rate: usize,
+    u: usize,
+    k: usize,
+    table: &[Symbol],
+) -> Symbol
+    requires { ⌜ (0 < q) × ((u * size + size) * rate ≤ length (now table)) × (k < rate) ⌝ }
+    ensures { λ r. ⌜ r ≡ clusterSum q size rate (now (table .entry)) u k ⌝ }
+{
+    let mut sum: Symbol = 0;
+    let mut v: usize = 0;
+    while v < size {
+        let i = (u * size + v) * rate + k;
+        sum = arithmetic::add_mod(q, sum, table[i]);
+        v += 1;
+    }
+    sum
+}
+
+// The sum of the rows of cluster u.
+fn sum_row(q: Symbol, size: usize, rate: usize, u: usize, table: &[Symbol], out: &mut [Symbol])
+    requires { ⌜ (0 < q) × ((u * size + size) * rate ≤ length (now table)) × (length (now out) ≡ rate) ⌝ }
+    ensures { λ _. ⌜ now (out .exit) ≡ tab rate (clusterSum q size rate (now (table .entry)) u) ⌝ }
+{
+    let mut k = 0;
+    while k < rate {
+        out[k] = cluster_sum(q, size, rate, u, k, table);
+        k += 1;
+    }
+}
+
+// The sum of each cluster's rows, one after the other.
+fn sum_rows(
+    q: Symbol,
+    clusters: usize,
+    size: usize,
+    rate: usize,
+    table: &[Symbol],
+    out: &mut [Symbol],
+)
+    requires { ⌜ (0 < q) × (clusters * size * rate ≤ length (now table)) × (clusters * rate ≡ length (now out)) ⌝ }
+    ensures { λ _. ⌜ now (out .exit) ≡ joinTo clusters (λ u. tab rate (clusterSum q size rate (now (table .entry)) u)) ⌝ }
+{
+    let mut u = 0;
+    while u < clusters {
+        let b = u * rate;
+        let e = b + rate;
+        sum_row(q, size, rate, u, table, &mut out[b..e]);
+        u += 1;
+    }
+}
+
+// Level 0: the key table, and below it the sums of its clusters.
+fn set_base(plan: Plan, table: &[Symbol], levels: &mut [Symbol])
+    requires { ⌜ (inBounds plan ≡ true) × (length (now table) ≡ usersOf plan * plan .rate) × (0 < plan .q) × (length (now levels) ≡ 6528) ⌝ }
+    ensures { λ _. ⌜ (length (now (levels .exit)) ≡ 6528) × (take ((usersOf plan + plan .clusters) * plan .rate) (now (levels .exit)) ≡ baseTable plan (now (table .entry))) ⌝ }
+{
+    let n = plan.clusters * plan.size * plan.rate;
+    let e = n + plan.clusters * plan.rate;
+    copy(table, &mut levels[0..n]);
+    sum_rows(
+        plan.q,
+        plan.clusters,
+        plan.size,
+        plan.rate,
+        table,
+        &mut levels[n..e],
+    );
+}
+
+// The first pair that leaks.
+pub(crate) fn find_leak(plan: Plan, table: &[Symbol]) -> Found
+    requires { ⌜ (inBounds plan ≡ true) × (length (now table) ≡ usersOf plan * plan .rate) × (0 < plan .q) ⌝ }
+    ensures { λ r. ⌜ r ≡ walked plan (baseTable plan (now (table .entry))) ⌝ }
+{
+    let mut levels = [0u16; 6528];
+    set_base(plan, table, &mut levels);
+    walk_levels(
+        plan.q,
+        plan.clusters,
+        plan.size,
+        plan.limit,
+        plan.rate,
+        &mut levels,
+    )
 }

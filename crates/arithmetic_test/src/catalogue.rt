@@ -1,0 +1,54 @@
+// The catalogue of refusals: made from their numbers, and read back.
+use crate::cases::Case;
+use refusals::Code;
+use refusals::Refusal;
+use refusals::Verdict;
+
+// A code as one number, which is above all of 32 bits.
+pub fn pack(number: u16, first: u16, second: u16) -> u64 {
+    (number as u64 + 1) * 4294967296 + first as u64 * 65536 + second as u64
+}
+
+pub fn packed(code: Code) -> u64 {
+    pack(code.number, code.first, code.second)
+}
+
+// Only 6 and 7 hold details.
+fn refusal(number: u16, first: u16, second: u16) -> Refusal {
+    match number {
+        1 => Refusal::OutOfBounds,
+        2 => Refusal::NotPrime,
+        3 => Refusal::NotASymbol,
+        4 => Refusal::WrongLength,
+        5 => Refusal::BadTrailer,
+        6 => Refusal::NotZeroSum { column: first },
+        7 => Refusal::Leaks {
+            coalition: first,
+            observer: second,
+        },
+        8 => Refusal::UnknownNumber,
+        9 => Refusal::BadBlockLength,
+        10 => Refusal::LimitTooLarge,
+        11 => Refusal::AlreadyReported,
+        12 => Refusal::NotFull,
+        13 => Refusal::StreamTooShort,
+        _ => Refusal::OtherRound,
+    }
+}
+
+fn second_code(number: u16, first: u16, second: u16) -> u64 {
+    match number {
+        6 => pack(6, first, 0),
+        7 => pack(7, first, second),
+        _ => pack(number, 0, 0),
+    }
+}
+
+pub fn refusal_agrees(c: Case) -> bool {
+    packed(refusals::code_of(refusal(c.q, c.a, c.b))) == second_code(c.q, c.a, c.b)
+}
+
+pub fn verdict_agrees(c: Case) -> bool {
+    let verdict = Verdict::Refused(refusal(c.q, c.a, c.b));
+    packed(refusals::verdict_code(verdict)) == second_code(c.q, c.a, c.b)
+}

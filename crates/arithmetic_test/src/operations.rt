@@ -1,0 +1,111 @@
+// The operations against the second implementation: each in its form without tests, and in the form with tests where there is one.
+use crate::cases::Case;
+use crate::catalogue::pack;
+use crate::catalogue::packed;
+use crate::counting::add_often;
+use crate::counting::inverse;
+use crate::counting::last_below;
+use crate::counting::power;
+use crate::counting::rest;
+use crate::divisors::has_two;
+use crate::numbers::wide;
+use arithmetic::Answer;
+
+pub enum Operation {
+    Sum,
+    Difference,
+    Opposite,
+    Product,
+    MulAdd,
+    Power,
+    Inverse,
+}
+
+// One step up is to add 1, one step down to add the last number below q.
+fn second_result(operation: Operation, c: Case) -> u64 {
+    let q = wide(c.q);
+    let a = rest(q, wide(c.a));
+    let b = wide(c.b);
+    match operation {
+        Operation::Sum => add_often(q, a, rest(q, 1), b),
+        Operation::Difference => add_often(q, a, last_below(q), b),
+        Operation::Opposite => add_often(q, 0, last_below(q), wide(c.a)),
+        Operation::Product => add_often(q, 0, a, b),
+        Operation::MulAdd => add_often(q, a, rest(q, wide(c.m)), b),
+        Operation::Power => power(q, a, c.exponent as u64),
+        Operation::Inverse => inverse(q, a),
+    }
+}
+
+fn result(operation: Operation, c: Case) -> u16 {
+    match operation {
+        Operation::Sum => arithmetic::add_mod(c.q, c.a, c.b),
+        Operation::Difference => arithmetic::sub_mod(c.q, c.a, c.b),
+        Operation::Opposite => arithmetic::opposite_mod(c.q, c.a),
+        Operation::Product => arithmetic::mul_mod(c.q, c.a, c.b),
+        Operation::MulAdd => arithmetic::mul_add_mod(c.q, c.a, c.m, c.b),
+        Operation::Power => arithmetic::power_mod(c.q, c.a, c.exponent),
+        Operation::Inverse => arithmetic::inverse_mod(c.q, c.a),
+    }
+}
+
+// A value as it is, and a refusal as a number above all values.
+pub fn outcome(answer: Answer) -> u64 {
+    match answer {
+        Answer::Value(v) => wide(v),
+        Answer::Refused(refusal) => packed(refusals::code_of(refusal)),
+    }
+}
+
+// 2 where q is no prime, then 3 where a number is not below q; 0 where nothing is to be refused.
+pub fn refusal_number(divisors: &[u8; 65536], q: u16, a: u16, b: u16) -> u16 {
+    if !has_two(divisors, q) {
+        return 2;
+    }
+    if q <= a {
+        return 3;
+    }
+    if q <= b { 3 } else { 0 }
+}
+
+// The second number that is to be below q. 0 has no inverse: it is refused as a number that is never below q.
+fn second_symbol(operation: Operation, c: Case) -> u16 {
+    match operation {
+        Operation::Power => c.a,
+        Operation::Inverse => if c.a == 0 { 65535 } else { c.a },
+        _ => c.b,
+    }
+}
+
+fn answer(operation: Operation, c: Case) -> Answer {
+    match operation {
+        Operation::Sum => arithmetic::sum(c.q, c.a, c.b),
+        Operation::Difference => arithmetic::difference(c.q, c.a, c.b),
+        Operation::Product => arithmetic::product(c.q, c.a, c.b),
+        Operation::Power => arithmetic::power(c.q, c.a, c.exponent),
+        _ => arithmetic::inverse(c.q, c.a),
+    }
+}
+
+fn checked_agrees(divisors: &[u8; 65536], operation: Operation, c: Case, second: u64) -> bool {
+    let number = refusal_number(divisors, c.q, c.a, second_symbol(operation, c));
+    let expected = if number == 0 {
+        second
+    } else {
+        pack(number, 0, 0)
+    };
+    outcome(answer(operation, c)) == expected
+}
+
+// The opposite and the product added to a number have no form with tests.
+pub fn operation_agrees(divisors: &[u8; 65536], operation: Operation, c: Case) -> bool {
+    let second = second_result(operation, c);
+    if wide(result(operation, c)) != second {
+        return false;
+    }
+    match operation {
+        Operation::Opposite => true,
+        Operation::MulAdd => true,
+        _ => checked_agrees(divisors, operation, c, second),
+    }
+}

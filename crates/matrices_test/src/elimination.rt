@@ -1,0 +1,129 @@
+// Elimination by row i: every row loses the multiple of the old row i that makes its number in the pivot column 0, worked out anew from a copy.
+use crate::numbers::draw;
+use crate::numbers::inverse;
+use crate::numbers::mul_add;
+use crate::numbers::narrow;
+use crate::numbers::opposite;
+use crate::numbers::prime;
+use crate::numbers::product;
+use crate::numbers::quotient;
+use crate::numbers::residue;
+use crate::numbers::seed;
+use crate::numbers::skip;
+use crate::numbers::step;
+use crate::tables::Shape;
+use crate::tables::at;
+use crate::tables::entry;
+use crate::tables::fill;
+use crate::tables::first_column;
+use arithmetic::Symbol;
+
+// 1 to 8 rows and 0 to 8 columns, and now and then the largest shape.
+fn shape(case: usize) -> Shape {
+    let x = seed(case);
+    let q = prime(draw(x, 10));
+    if case % 64 == 0 {
+        return Shape {
+            q,
+            rows: 48,
+            cols: 48,
+        };
+    }
+    let y = step(x);
+    Shape {
+        q,
+        rows: draw(y, 8) % 8 + 1,
+        cols: draw(step(y), 9),
+    }
+}
+
+pub fn length(case: usize) -> usize {
+    let s = shape(case);
+    product(s.rows, s.cols)
+}
+
+// The row that is eliminated by, the first column in which it is not 0, and the inverse of its number there.
+struct Pivot {
+    row: usize,
+    column: usize,
+    inverse: usize,
+}
+
+// Where the row is 0, the inverse is taken to be 0, so that every multiple is.
+fn find(s: Shape, t: &[Symbol], i: usize) -> Pivot {
+    let p = first_column(s.cols, t, i);
+    if p >= s.cols {
+        return Pivot {
+            row: i,
+            column: p,
+            inverse: 0,
+        };
+    }
+    let a = entry(s.cols, t, i, p);
+    Pivot {
+        row: i,
+        column: p,
+        inverse: inverse(s.q, a),
+    }
+}
+
+// What elimination makes of place n: its number less the multiple of the row's in the same column.
+fn expected(s: Shape, old: &[Symbol], by: Pivot, n: usize) -> usize {
+    let cols = s.cols;
+    let j = quotient(n, cols);
+    let k = residue(n, cols);
+    let m = mul_add(s.q, 0, entry(cols, old, j, by.column), by.inverse);
+    mul_add(
+        s.q,
+        at(old, n),
+        opposite(s.q, m),
+        entry(cols, old, by.row, k),
+    )
+}
+
+// Row i and the pivot column are 0 afterwards.
+fn is_zero_place(s: Shape, by: Pivot, n: usize) -> bool {
+    if quotient(n, s.cols) == by.row {
+        return true;
+    }
+    residue(n, s.cols) == by.column
+}
+
+fn holds_at(s: Shape, old: &[Symbol], t: &[Symbol], by: Pivot, n: usize) -> bool {
+    let a = at(t, n);
+    if a != expected(s, old, by, n) {
+        return false;
+    }
+    if is_zero_place(s, by, n) {
+        return a == 0;
+    }
+    true
+}
+
+fn holds(s: Shape, old: &[Symbol], t: &[Symbol], by: Pivot) -> bool {
+    for n in 0..t.len() {
+        if !holds_at(s, old, t, by, n) {
+            return false;
+        }
+    }
+    true
+}
+
+fn compare(s: Shape, old: &[Symbol], t: &[Symbol], i: usize, found: bool) -> bool {
+    let by = find(s, old, i);
+    let has = by.column < s.cols;
+    if found != has {
+        return false;
+    }
+    holds(s, old, t, by)
+}
+
+pub fn agrees(case: usize, t: &mut [Symbol], old: &mut [Symbol]) -> bool {
+    let s = shape(case);
+    let x = skip(seed(case));
+    let i = draw(x, s.rows);
+    fill(s.q, x, t);
+    fill(s.q, x, old);
+    let found = matrices::eliminate(narrow(s.q), s.rows, s.cols, i, t);
+    compare(s, old, t, i, found)
+}

@@ -1,0 +1,50 @@
+// Shapes that are no tables, and rows that a table does not have: elimination finds nothing and leaves the numbers as they are.
+use crate::numbers::seed;
+use crate::shapes::length_of;
+use crate::shapes::shape_of;
+use crate::tables::fill;
+use crate::tables::same;
+use arithmetic::Symbol;
+
+// The 24 combinations of a shape and a length for eliminate, then the 20 wrong ones for reduce_rows.
+pub const CASES: usize = 44;
+
+// The number of a combination, whose shape is that modulo 8: those below 4 are right, and all others wrong.
+fn combination(case: usize) -> usize {
+    if case < 24 { case } else { case - 20 }
+}
+
+pub fn length(case: usize) -> usize {
+    let n = combination(case);
+    length_of(n % 8, n / 8)
+}
+
+// Where the shape and the length are right, the row is wrong.
+fn row(case: usize, rows: usize) -> usize {
+    if case >= 4 {
+        return 0;
+    }
+    if case % 2 == 0 {
+        rows
+    } else {
+        18446744073709551615
+    }
+}
+
+fn finds(case: usize, t: &mut [Symbol]) -> bool {
+    let s = shape_of(7, combination(case) % 8);
+    if case < 24 {
+        return matrices::eliminate(7, s.rows, s.cols, row(case, s.rows), t);
+    }
+    matrices::reduce_rows(7, s.rows, s.cols, t) != 0
+}
+
+pub fn agrees(case: usize, t: &mut [Symbol], old: &mut [Symbol]) -> bool {
+    let x = seed(case);
+    fill(7, x, t);
+    fill(7, x, old);
+    if finds(case, t) {
+        return false;
+    }
+    same(old, t)
+}

@@ -1,0 +1,95 @@
+-- The pairs of the walk are all coalitions of at most as many users as the limit says, each with all observers, and nothing else.
+use mathlib.Core.Path.{_≡_, refl, sym, ap, _∙_, subst}
+use mathlib.Core.Logic.{⊎-elim}
+use mathlib.Core.Bool.{Bool, true, false, cond}
+use mathlib.Core.List.{List, [], _∷_, _++_, map, map-append}
+use Prim.Native.Nat.{ℕ, zero, suc, _+_, _*_, _^_, _≤_, _<_}
+use native.Mathlib.Nat.{not-suc-le-zero, le-of-suc-le-suc, eq-or-lt-of-le}
+use native.Mathlib.Omega.{arith}
+use lib.Dec.{T, leb, leb→le}
+use borrow.Author.Tests.{le-leb}
+use Rattle.arithmetic.proofs.Searches.{true→T}
+use Rattle.matrices.specs.Linear.{All}
+use Rattle.matrices.proofs.Vectors.{all-append, all-left, all-right}
+use Rattle.secrecy.specs.Lists.{tab, joinTo, picked}
+use Rattle.secrecy.specs.Counts.{howMany}
+use Rattle.secrecy.specs.Model.{inCoalition}
+use Rattle.vetting.specs.declared.Plan.{Plan}
+use Rattle.vetting.specs.declared.Pair.{Pair}
+use Rattle.vetting.specs.Plans.{usersOf}
+use Rattle.vetting.specs.Walk.{observers, pairs}
+
+-- a coalition of at most `limit` of the users, and an observer: 0, or the number of a relay
+pub record InWalk (P : Plan) (g w : ℕ) : Type 0 where
+  pub users : g < 2 ^ usersOf P
+  pub few : howMany (usersOf P) (inCoalition g) ≤ P .limit
+  pub observer : w ≤ P .clusters
+
+module _ {A : Type 0} (Q : A → Type 0) where
+  all-tab : (n : ℕ) (f : ℕ → ℕ) (h : ℕ → A) → ((k : ℕ) → k < n → Q (h (f k))) → All Q (map h (tab n f))
+  unfolding tab
+  all-tab zero f h a = tt
+  all-tab (suc n) f h a = (a 0 (omega arith), all-tab n (λ k. f (suc k)) h (λ k l. a (suc k) (omega arith)))
+
+  tab-all : (n : ℕ) (f : ℕ → ℕ) (h : ℕ → A) → All Q (map h (tab n f)) → (k : ℕ) → k < n → Q (h (f k))
+  unfolding tab
+  tab-all zero f h a k l = absurd (not-suc-le-zero l)
+  tab-all (suc n) f h a zero l = a .0
+  tab-all (suc n) f h a (suc k) l = tab-all n (λ k. f (suc k)) h (a .1) k (le-of-suc-le-suc l)
+
+  all-lists : (n : ℕ) (b : ℕ → Bool) (f : ℕ → List A) → ((i : ℕ) → i < n → T (b i) → All Q (f i)) → All Q (picked n b f)
+  unfolding picked joinTo
+  all-lists zero b f h = tt
+  all-lists (suc n) b f h =
+      all-append Q (picked n b f) (cond (b n) (f n) []) (all-lists n b f (λ i l. h i (omega arith))) (go (b n) (h n (omega arith)))
+    where
+      go : (t : Bool) → (T t → All Q (f n)) → All Q (cond t (f n) [])
+      go true a = a tt
+      go false a = tt
+
+  lists-all : (n : ℕ) (b : ℕ → Bool) (f : ℕ → List A) → All Q (picked n b f) → (i : ℕ) → i < n → T (b i) → All Q (f i)
+  unfolding picked joinTo
+  lists-all zero b f h i l t = absurd (not-suc-le-zero l)
+  lists-all (suc n) b f h i l t =
+      ⊎-elim
+      (λ e. subst (λ (j : ℕ). All Q (f j)) (sym e) (go (b n) (all-right Q (picked n b f) (cond (b n) (f n) []) h) (subst (λ (j : ℕ). T (b j)) e t)))
+      (λ c. lists-all n b f (all-left Q (picked n b f) (cond (b n) (f n) []) h) i c t)
+      (eq-or-lt-of-le (le-of-suc-le-suc l))
+    where
+      go : (s : Bool) → All Q (cond s (f n) []) → T s → All Q (f n)
+      go true a s = a
+      go false a s = absurd s
+
+module _ (P : Plan) where
+  abbrev pairOf : ℕ → ℕ → Pair
+  pairOf g w = record { coalition = g; observer = w }
+
+  abbrev within : ℕ → Bool
+  within g = leb (howMany (usersOf P) (inCoalition g)) (P .limit)
+
+  -- each pair of the walk is one of these
+  pub pairs-in : All (λ p. InWalk P (p .coalition) (p .observer)) (pairs (P .clusters) (P .size) (P .limit))
+  unfolding pairs observers
+  pairs-in =
+      all-lists (λ p. InWalk P (p .coalition) (p .observer)) (2 ^ usersOf P) within (λ g. map (pairOf g) (observers (P .clusters)))
+      (λ g l t.
+      let one : (w : ℕ) → w ≤ P .clusters → InWalk P g w
+      = λ w h. record { users = l; few = leb→le (howMany (usersOf P) (inCoalition g)) (P .limit) t; observer = h } in
+      subst (All (λ p. InWalk P (p .coalition) (p .observer))) (sym (map-append (pairOf g) (tab (P .clusters) suc) (0 ∷ [])))
+      (all-append (λ p. InWalk P (p .coalition) (p .observer)) (map (pairOf g) (tab (P .clusters) suc)) (pairOf g 0 ∷ [])
+      (all-tab (λ p. InWalk P (p .coalition) (p .observer)) (P .clusters) suc (pairOf g) (λ k m. one (suc k) m))
+      (one 0 (omega arith), tt)))
+
+  -- and each of these is a pair of the walk: it has what all of them have
+  pub in-pairs : (Q : Pair → Type 0) → All Q (pairs (P .clusters) (P .size) (P .limit)) → (g w : ℕ) → InWalk P g w → Q (record { coalition = g; observer = w })
+  unfolding pairs observers
+  in-pairs Q a g w i =
+      here w (i .observer)
+      (subst (All Q) (map-append (pairOf g) (tab (P .clusters) suc) (0 ∷ []))
+      (lists-all Q (2 ^ usersOf P) within (λ g. map (pairOf g) (observers (P .clusters))) a g (i .users)
+      (true→T (within g) (le-leb (howMany (usersOf P) (inCoalition g)) (P .limit) (i .few)))))
+    where
+      here : (w : ℕ) → w ≤ P .clusters → All Q (map (pairOf g) (tab (P .clusters) suc) ++ (pairOf g 0 ∷ [])) → Q (pairOf g w)
+      here zero h a = all-right Q (map (pairOf g) (tab (P .clusters) suc)) (pairOf g 0 ∷ []) a .0
+      here (suc k) h a =
+          tab-all Q (P .clusters) suc (pairOf g) (all-left Q (map (pairOf g) (tab (P .clusters) suc)) (pairOf g 0 ∷ []) a) k h

@@ -1,0 +1,103 @@
+-- The verdict from its parts: what is known of a plan and a table that passed, and the columns.
+use mathlib.Core.Path.{_≡_, refl, sym, ap, _∙_}
+use mathlib.Core.Bool.{Bool, true, false, cond, not}
+use mathlib.Core.List.{List, [], _∷_, _++_, map}
+use mathlib.Core.Logic.{_≢_}
+use Prim.Native.Nat.{ℕ, zero, suc, _+_, _*_, _%_, _<_, suc-le-suc}
+use native.Mathlib.Nat.{not-suc-le-zero, le-of-suc-le-suc, zero-lt-suc}
+use native.Mathlib.Decide.{decLt}
+use native.Mathlib.Omega.{arith}
+use lib.Dec.{T, eqb}
+use lib.ListN.{length}
+use borrow.Author.Tests.{not-false, eqb-true, eq-eqb, ne-eqb}
+use Rattle.refusals.specs.declared.Code.{Code}
+use Rattle.refusals.specs.declared.Refusal.{Refusal}
+use Rattle.refusals.specs.Codes.{accepted, codeOf, firstOf, ifAccepted}
+use Rattle.refusals.proofs.CodeLaws.{numbered, NoneHolds, none-holds, refused-keeps, accepted-takes}
+use Rattle.arithmetic.specs.Primes.{Prime, isPrime, allBelow}
+use Rattle.arithmetic.proofs.Searches.{T-and}
+use Rattle.arithmetic.proofs.PrimeLaws.{true-prime}
+use Rattle.matrices.specs.Linear.{at}
+use Rattle.secrecy.specs.Lists.{tab}
+use Rattle.secrecy.proofs.Sums.{sum-cong}
+use Rattle.vetting.specs.declared.Plan.{Plan}
+use Rattle.vetting.specs.Plans.{usersOf, inBounds}
+use Rattle.vetting.specs.Walk.{pairs}
+use Rattle.vetting.specs.Verdict.{columnSum, columnCheck, leakCheck, otherChecks, verdict}
+use Rattle.vetting.specs.Walking.{clusterSum, baseTable, walked, foundCode, tableChecks, columnChecks}
+use Rattle.vetting.proofs.Orders.{rest-decides}
+use Rattle.vetting.proofs.Deciding.{found-verdict}
+
+-- ---- a plan and a table that passed
+
+pub record Passed (P : Plan) (K : List ℕ) : Type 0 where
+  pub bounds : inBounds P ≡ true
+  pub size : length K ≡ usersOf P * P .rate
+  pub prime : Prime (P .q)
+  pub below : allBelow (P .q) K ≡ true
+
+-- whatever checks come after
+pub table-passed : (P : Plan) (K : List ℕ) (rest : List (Bool × Code)) → T (numbered rest) → accepted ≡ firstOf (tableChecks P K ++ rest) → Passed P K
+table-passed P K rest t e =
+    let w = none-holds (tableChecks P K ++ rest) t e in
+    record {
+      bounds = not-false (inBounds P) (w .0);
+      size = eqb-true (length K) (usersOf P * P .rate) (not-false (eqb (length K) (usersOf P * P .rate)) (w .1 .0));
+      prime = true-prime (P .q) (not-false (isPrime (P .q)) (w .1 .1 .0));
+      below = not-false (allBelow (P .q) K) (w .1 .1 .1 .0);
+    }
+
+-- ---- columns
+
+module _ (P : Plan) (K : List ℕ) where
+  pub one-cluster : (k : ℕ) → clusterSum (P .q) (usersOf P) (P .rate) K 0 k ≡ columnSum P K k
+  unfolding clusterSum columnSum
+  one-cluster k =
+      ap (λ (s : ℕ). s % P .q)
+      (sum-cong (usersOf P) (λ v. at K ((0 * usersOf P + v) * P .rate + k)) (λ i. at K (i * P .rate + k))
+      (λ v h. ap (λ (i : ℕ). at K (i * P .rate + k)) (omega arith)))
+
+  pub columns-numbered : (n : ℕ) (f : ℕ → ℕ) → T (numbered (map (columnCheck P K) (tab n f)))
+  unfolding tab
+  columns-numbered zero f = tt
+  columns-numbered (suc n) f = columns-numbered n (λ k. f (suc k))
+
+  pub columns-zero : (n : ℕ) (f : ℕ → ℕ) → ((k : ℕ) → k < n → columnSum P K (f k) ≡ 0) → accepted ≡ firstOf (map (columnCheck P K) (tab n f))
+  unfolding tab
+  columns-zero zero f z = refl
+  columns-zero (suc n) f z =
+      rw (eq-eqb (columnSum P K (f 0)) 0 (z 0 (zero-lt-suc n))) (columns-zero n (λ k. f (suc k)) (λ k l. z (suc k) (suc-le-suc l)))
+
+  zero-columns : (n : ℕ) (f : ℕ → ℕ) → NoneHolds (map (columnCheck P K) (tab n f)) → (k : ℕ) → k < n → columnSum P K (f k) ≡ 0
+  unfolding tab
+  zero-columns zero f w k h = absurd (not-suc-le-zero h)
+  zero-columns (suc n) f w zero h = eqb-true (columnSum P K (f 0)) 0 (not-false (eqb (columnSum P K (f 0)) 0) (w .0))
+  zero-columns (suc n) f w (suc k) h = zero-columns n (λ i. f (suc i)) (w .1) k (le-of-suc-le-suc h)
+
+  pub columns-passed : accepted ≡ firstOf (otherChecks P K) → (k : ℕ) → k < P .rate → columnSum P K k ≡ 0
+  columns-passed e = zero-columns (P .rate) (λ k. k) (none-holds (otherChecks P K) (columns-numbered (P .rate) (λ k. k)) e .1 .1 .1 .1)
+
+  pub column-first : (n : ℕ) (f : ℕ → ℕ) (k : ℕ) → k < n → ((j : ℕ) → j < k → columnSum P K (f j) ≡ 0) → columnSum P K (f k) ≢ 0
+      → record { number = 6; first = f k + 1; second = 0 } ≡ firstOf (map (columnCheck P K) (tab n f))
+  unfolding tab
+  column-first zero f k h z x = absurd (not-suc-le-zero h)
+  column-first (suc n) f zero h z x = rw (ne-eqb (columnSum P K (f 0)) 0 x)
+  column-first (suc n) f (suc k) h z x =
+      rw (eq-eqb (columnSum P K (f 0)) 0 (z 0 (zero-lt-suc k)))
+      (column-first n (λ i. f (suc i)) k (le-of-suc-le-suc h) (λ j l. z (suc j) (suc-le-suc l)) x)
+
+  -- one column more sums to zero
+  pub zeros-next : (k : ℕ) → ((j : ℕ) → j < k → columnSum P K j ≡ 0) → columnSum P K k ≡ 0 → (j : ℕ) → j < k + 1 → columnSum P K j ≡ 0
+  zeros-next k z e j h = go (decLt j k)
+    where
+      go : Dec (j < k) → columnSum P K j ≡ 0
+      go (yes l) = z j l
+      go (no n) = let same : j ≡ k = omega arith in ap (columnSum P K) same ∙ e
+
+  -- what the walk finds in a table that passed every other check
+  pub walk-verdict : accepted ≡ firstOf (otherChecks P K) → foundCode (walked P (baseTable P K)) ≡ verdict P K
+  walk-verdict e =
+      let t : T (numbered (otherChecks P K)) = columns-numbered (P .rate) (λ k. k) in
+      let p : Passed P K = table-passed P K (columnChecks P K) t e in
+      found-verdict P K (p .bounds) (p .size) (p .prime) (p .below) (columns-passed e)
+      ∙ rest-decides (otherChecks P K) (map (leakCheck P K) (pairs (P .clusters) (P .size) (P .limit))) t e

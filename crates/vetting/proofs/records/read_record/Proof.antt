@@ -1,0 +1,103 @@
+use borrow.Author.Needs.{needs}
+use mathlib.Core.Path.{_≡_, sym, ap, _∙_}
+use mathlib.Core.Bool.{true}
+use mathlib.Core.List.{List}
+use Prim.Native.Nat.{ℕ}
+use native.Mathlib.Omega.{arith}
+use Rattle.refusals.specs.Codes.{accepted}
+use Rattle.refusals.proofs.CodeLaws.{refused-keeps, accepted-takes}
+use Rattle.vetting.specs.Plans.{plannedCode, plannedPlan}
+use Rattle.vetting.specs.Records.{planRead, tableRead, readVerdict, padded}
+use Rattle.vetting.specs.Plans.{inBounds, noPlan}
+use Rattle.vetting.proofs.RecordChecks.{Readable, readable, read-words, words-inside}
+use Rattle.vetting.proofs.PlanSizes.{bounded}
+use Rattle.vetting.proofs.records.read_record.Statement.{statement}
+use Rattle.vetting.proofs.records.read_record.Tie as tie
+
+-- the checks accepted
+told : (c : tie.After-plan) → (let a = c .before .before .before .before .before .before .args in accepted ≡ readVerdict (a .bytes .now) (a .table .now))
+told c = sym (ap plannedCode (c .plan .given .1)) ∙ c .before .before .check-record .ensures .0
+
+passed : (c : tie.After-plan) → (let a = c .before .before .before .before .before .before .args in Readable (a .bytes .now) (a .table .now))
+passed c = let a = c .before .before .before .before .before .before .args in readable (a .bytes .now) (a .table .now) (told c)
+
+plan-is : (c : tie.After-plan) → c .plan .given .0 .0 ≡ planRead (c .before .before .before .before .before .before .args .bytes .now)
+plan-is c =
+    let a = c .before .before .before .before .before .before .args in
+    sym (ap plannedPlan (c .plan .given .1)) ∙ c .before .before .check-record .ensures .1
+    ∙ accepted-takes (readVerdict (a .bytes .now) (a .table .now)) (planRead (a .bytes .now)) noPlan (told c)
+
+in-range : (c : tie.After-plan) → inBounds (c .plan .given .0 .0) ≡ true
+in-range c = ap inBounds (plan-is c) ∙ passed c .bounds
+
+check-record-requires : tie.Need-check-record-requires
+check-record-requires c κs = search needs
+
+enum-known-refusal : tie.Need-enum-known-refusal
+enum-known-refusal c = search needs
+
+enum-known-plan : tie.Need-enum-known-plan
+enum-known-plan c = search needs
+
+start-in-requires : tie.Need-start-in-requires
+start-in-requires c κs = passed (c .before) .trailer
+
+add-fill : tie.Need-add-fill
+add-fill c = search needs
+
+symbols-requires : tie.Need-symbols-requires
+symbols-requires c κs = in-range (c .before .before)
+
+fill-requires : tie.Need-fill-requires
+fill-requires c κs =
+    let p = c .before .before .before .before in
+    let B : List ℕ = p .before .before .before .before .before .before .args .bytes .now in (
+      words-inside B (p .plan .given .0 .0) _ _ (plan-is p) (c .before .symbols .ensures) (c .before .before .start-in .ensures) (passed p .trailer) (passed p .size),
+      omega (arith, c .before .symbols .ensures, bounded (p .plan .given .0 .0) (in-range p) .symbols),
+      passed p .lent,
+    )
+
+same-length : tie.Need-same-length
+same-length c = search needs
+
+returns : tie.Need-returns
+returns c =
+    let a = c .before .before .before .before .before .before .before .args in
+    let B : List ℕ = a .bytes .now in
+    let out : List ℕ = a .table .now in
+    let r = c .before .refusal .given .0 .0 in
+    let e = sym (ap plannedCode (c .before .refusal .given .1)) ∙ c .before .before .before .check-record .ensures .0 in
+    (e, (sym (refused-keeps (readVerdict B out) (planRead B) noPlan r e), sym (refused-keeps (readVerdict B out) (padded (tableRead B)) out r e)))
+
+same-length-2 : tie.Need-same-length-2
+same-length-2 c = search needs
+
+returns-2 : tie.Need-returns-2
+returns-2 c =
+    let p = c .before .before .before .before .before .before .before in
+    let a = p .before .before .before .before .before .before .args in
+    let B : List ℕ = a .bytes .now in
+    let out : List ℕ = a .table .now in
+    let words = read-words B (p .plan .given .0 .0) _ _ (plan-is p) (c .before .before .before .before .symbols .ensures) (c .before .before .before .before .before .start-in .ensures) in (
+      told p,
+      (
+        plan-is p ∙ sym (accepted-takes (readVerdict B out) (planRead B) noPlan (told p)),
+        c .before .before .fill .ensures ∙ ap padded words ∙ sym (accepted-takes (readVerdict B out) (padded (tableRead B)) out (told p)),
+      ),
+    )
+
+pub read-record-spec : {M : Type 1} → statement M
+read-record-spec =
+    tie.close
+    (tie.spec
+    check-record-requires
+    enum-known-refusal
+    enum-known-plan
+    start-in-requires
+    add-fill
+    symbols-requires
+    fill-requires
+    same-length
+    returns
+    same-length-2
+    returns-2)

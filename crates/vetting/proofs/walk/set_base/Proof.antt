@@ -1,0 +1,103 @@
+use mathlib.Core.Path.{_≡_, ap, _∙_}
+use mathlib.Core.List.{List, _++_}
+use Prim.Native.Nat.{ℕ, _+_, _-_, _*_, _≤_}
+use native.Mathlib.Omega.{arith}
+use lib.ListN.{length}
+use Rattle.secrecy.specs.Lists.{tab, joinTo}
+use Rattle.secrecy.proofs.ListLaws.{length-tab}
+use Rattle.vetting.specs.Plans.{usersOf}
+use Rattle.vetting.specs.Walking.{clusterSum, baseTable}
+use Rattle.vetting.proofs.PlanBounds.{Bounds, bounds-known}
+use Rattle.vetting.proofs.BaseLaws.{base-room, length-join, copy-length, both-length, both-front}
+use borrow.Author.Needs.{needs}
+use Rattle.vetting.proofs.walk.set_base.Statement.{statement}
+use Rattle.vetting.proofs.walk.set_base.Tie as tie
+
+within : (s : tie.Start) → Bounds (s .args .plan)
+within s = bounds-known (s .args .plan) (s .pre .0)
+
+-- the first level has room
+room : (s : tie.Start) → (let P = s .args .plan in usersOf P * P .rate + P .clusters * P .rate ≤ length (s .args .levels .now))
+room s = omega (arith, base-room (s .args .plan) (within s), s .pre .3)
+
+mul-n : tie.Need-mul-n
+mul-n c = omega (arith, within (c .before .before .before) .counts .few-users)
+
+mul-n-2 : tie.Need-mul-n-2
+mul-n-2 c = search needs
+
+mul-e : tie.Need-mul-e
+mul-e c = omega (arith, base-room (c .before .before .before .before .before .args .plan) (within (c .before .before .before .before .before)))
+
+add-e : tie.Need-add-e
+add-e c = omega (arith, base-room (c .before .before .before .before .before .args .plan) (within (c .before .before .before .before .before)))
+
+sub-copy : tie.Need-sub-copy
+sub-copy c = search needs
+
+part-copy-start : tie.Need-part-copy-start
+part-copy-start c = search needs
+
+part-copy-end : tie.Need-part-copy-end
+part-copy-end c = omega (arith, room (c .before .before .before .before .before))
+
+copy-requires : tie.Need-copy-requires
+copy-requires c κs = search needs
+
+mul-sum-rows : tie.Need-mul-sum-rows
+mul-sum-rows c = search needs
+
+sub-sum-rows : tie.Need-sub-sum-rows
+sub-sum-rows c = search needs
+
+part-sum-rows-start : tie.Need-part-sum-rows-start
+part-sum-rows-start c = search needs
+
+part-sum-rows-end : tie.Need-part-sum-rows-end
+part-sum-rows-end c =
+    let s = c .before .before .before .before .before .before .before .before .before in
+    let P = s .args .plan in
+    let n : ℕ = usersOf P * P .rate in
+    omega (arith, room s, copy-length n (P .clusters * P .rate) (n - 0) (n + P .clusters * P .rate - n) (s .args .levels .now) (s .args .table .now) _ (omega arith) (omega arith) (s .pre .1) (room s) (c .before .before .copy .ensures))
+
+sum-rows-requires : tie.Need-sum-rows-requires
+sum-rows-requires c κs = search needs
+
+same-length : tie.Need-same-length
+same-length c = search needs
+
+returns : tie.Need-returns
+unfolding baseTable
+returns c =
+    let s = c .before .before .before .before .before .before .before .before .before .before .before .before .before in
+    let P = s .args .plan in
+    let K : List ℕ = s .args .table .now in
+    let n : ℕ = usersOf P * P .rate in
+    let m : ℕ = P .clusters * P .rate in
+    let y : List ℕ = c .before .before .sum-rows .last .1 .1 .1 .1 .1 .0 in
+    let told : y ≡ joinTo (P .clusters) (λ u. tab (P .rate) (clusterSum (P .q) (P .size) (P .rate) K u)) = c .before .before .sum-rows .ensures in
+    let l : length y ≡ m = ap length told ∙ length-join _ (P .rate) (P .clusters) (λ u. length-tab (P .rate) (clusterSum (P .q) (P .size) (P .rate) K u)) in (
+      both-length n m (n - 0) (n + m - n) (s .args .levels .now) K _ (omega arith) (omega arith) (s .pre .1) (room s) (c .before .before .before .before .before .before .copy .ensures) y l ∙ s .pre .3,
+      both-front n m (n - 0) (n + m - n) (s .args .levels .now) K _ (omega arith) (omega arith) (s .pre .1) (room s) (c .before .before .before .before .before .before .copy .ensures) y ((usersOf P + P .clusters) * P .rate) l (omega arith)
+          ∙ ap (λ (x : List ℕ). K ++ x) told,
+    )
+
+pub set-base-spec : {M : Type 1} → statement M
+set-base-spec =
+    tie.close
+    (tie.spec
+    mul-n
+    mul-n-2
+    mul-e
+    add-e
+    sub-copy
+    part-copy-start
+    part-copy-end
+    copy-requires
+    mul-sum-rows
+    sub-sum-rows
+    part-sum-rows-start
+    part-sum-rows-end
+    sum-rows-requires
+    same-length
+    returns)
