@@ -10,6 +10,9 @@ product-small {a} {b} ha hb = mul-le-mul {n₁ = a} {m₁ = b} {n₂ = 65535} {m
 pub rem-small : (q n : ℕ) → q < 2 ^ 16 → 0 < q → n % q < 2 ^ 16
 rem-small q n h p = lt-trans (mod-lt n p) h
 
+pub rem-fits : (q n : ℕ) → 0 < q → n % q ≤ q
+rem-fits q n p = omega (arith, mod-lt n p)
+
 -- a number whose square is a symbol
 pub root-small : (q d : ℕ) → q < 2 ^ 16 → d * d ≤ q → d < 256
 root-small q d h l = go (decLt d 256)

@@ -4,7 +4,7 @@ use mathlib.Core.Path.{_≡_, refl, sym, _∙_}
 use mathlib.Core.List.{List}
 use Prim.Native.Nat.{ℕ, _-_, _≤_, _<_}
 use native.Mathlib.Omega.{arith}
-use lib.ListN.{length, getD, take, length-set}
+use lib.ListN.{length, take, length-set}
 use Rattle.matrices.proofs.Steps.{copy-next, copy-done}
 use Rattle.matrices.proofs.copy_all.Statement.{statement}
 use Rattle.matrices.proofs.copy_all.Tie as tie
@@ -41,7 +41,7 @@ loop-again c =
     let s = c .before .before .loop in
     let f : List ℕ = c .before .before .before .args .from .now in
     let h : s .j < length f = c .before .loop-test .taken in
-    (omega arith, length-set (s .to) (s .j) (getD f (s .j) 0) ∙ s .inv .1, copy-next f (s .to) (s .j) h (s .inv .1) (s .inv .2))
+    (omega arith, length-set (s .to) (s .j) _ ∙ s .inv .1, copy-next f (s .to) (s .j) h (s .inv .1) (s .inv .2))
 
 same-length : tie.Need-same-length Inv-loop μ-loop
 same-length c = c .before .loop .inv .1 ∙ c .before .before .pre

@@ -1,7 +1,7 @@
-use native.Mathlib.Nat.{mod-lt}
 use native.Mathlib.Omega.{arith}
 use borrow.Author.Tests.{eq-eqb, ne-eqb}
 use borrow.Author.Needs.{needs}
+use Rattle.arithmetic.proofs.Sizes.{rem-fits}
 use Rattle.arithmetic.proofs.modular.opposite_mod.Statement.{statement}
 use Rattle.arithmetic.proofs.modular.opposite_mod.Tie as tie
 
@@ -12,7 +12,7 @@ rem-result : tie.Need-rem-result
 rem-result c = search needs
 
 sub-result : tie.Need-sub-result
-sub-result c = omega (arith, mod-lt (c .before .args .b) {m = c .before .args .q} (omega arith))
+sub-result c = rem-fits _ _ (omega arith)
 
 rem-result-2 : tie.Need-rem-result-2
 rem-result-2 c = search needs

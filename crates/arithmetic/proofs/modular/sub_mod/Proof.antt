@@ -1,7 +1,7 @@
-use native.Mathlib.Nat.{mod-lt}
 use native.Mathlib.Omega.{arith}
 use borrow.Author.Tests.{eq-eqb}
 use borrow.Author.Needs.{needs}
+use Rattle.arithmetic.proofs.Sizes.{rem-fits}
 use Rattle.arithmetic.proofs.modular.sub_mod.Statement.{statement}
 use Rattle.arithmetic.proofs.modular.sub_mod.Tie as tie
 
@@ -12,7 +12,7 @@ rem-reduce : tie.Need-rem-reduce
 rem-reduce c = search needs
 
 sub-reduce : tie.Need-sub-reduce
-sub-reduce c = omega (arith, mod-lt (c .before .args .b) {m = c .before .args .q} (omega arith))
+sub-reduce c = rem-fits _ _ (omega arith)
 
 cast-reduce : tie.Need-cast-reduce
 cast-reduce c = search needs

@@ -47,7 +47,7 @@ loop-again c =
     let s = c .before .before .loop in
     let q : ℕ = c .before .before .before .before .before .args .q in (
       omega (arith, s .inv .0),
-      omega (arith, root-small q (s .d) (omega arith) (c .before .loop-test .taken)),
+      omega (arith, root-small q (s .d) (omega arith) (omega (arith, c .before .loop-test .taken))),
       omega (arith, s .inv .2),
       undivided-odd q (s .d) (c .before .before .before .if2 .left) (s .inv .2) (s .inv .3) (c .if3 .left),
     )
