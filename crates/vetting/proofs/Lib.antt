@@ -26,4 +26,5 @@ pub mod Bytes
 mod PlanSizes
 mod Fills
 mod Trailers
+mod LineLaws
 mod RecordExamples

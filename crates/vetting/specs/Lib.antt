@@ -5,3 +5,4 @@ pub mod Walking
 pub mod Keys
 pub mod Maker
 pub mod Records
+pub mod Program

@@ -5,7 +5,7 @@ use Prim.Native.Nat.{ℕ, zero, suc, _+_, _-_, _*_, _/_, _%_, _^_}
 use mathlib.Core.Bool.{Bool, cond, not, _&&_}
 use mathlib.Core.List.{List, [], _∷_, _++_, map}
 use lib.Dec.{eqb}
-use lib.ListN.{length, take, drop}
+use lib.ListN.{length, take, drop, set}
 use Rattle.arithmetic.specs.Primes.{isPrime, allBelow}
 use Rattle.matrices.specs.Linear.{at}
 use Rattle.matrices.specs.Tables.{rowOf, eliminated, pivotsFrom}
@@ -16,6 +16,7 @@ use Rattle.refusals.specs.declared.Code.{Code}
 use Rattle.refusals.specs.Codes.{code, accepted}
 use Rattle.vetting.specs.declared.Plan.{Plan}
 use Rattle.vetting.specs.declared.Pair.{Pair}
+use Rattle.vetting.specs.declared.Line.{Line}
 use Rattle.vetting.specs.declared.Found.{Found}
 use Rattle.vetting.specs.declared.Found.the-variants.{At, Nothing}
 use Rattle.vetting.specs.Plans.{usersOf, inBounds}
@@ -120,3 +121,9 @@ tableChecks P K =
 
 abbrev pub columnChecks : Plan → List ℕ → List (Bool × Code)
 columnChecks P K = map (columnCheck P K) (tab (P .rate) (λ k. k))
+
+-- ---- a line, byte by byte
+
+unfoldable pub typed : Line → List ℕ → Line
+typed l [] = l
+typed l (byte ∷ bytes) = typed (record { text = set (l .text) (l .length) byte; length = l .length + 1 }) bytes

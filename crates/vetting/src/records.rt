@@ -99,7 +99,7 @@ fn plan_in(bytes: &[u8]) -> Plan
 }
 
 // The symbols of the plan's key table.
-fn symbols(plan: Plan) -> usize
+pub(crate) fn symbols(plan: Plan) -> usize
     requires { ⌜ inBounds plan ≡ true ⌝ }
     ensures { λ r. ⌜ r ≡ usersOf plan * plan .rate ⌝ }
 {

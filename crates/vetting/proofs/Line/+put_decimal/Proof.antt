@@ -1,0 +1,139 @@
+-- The measure is the number; its tenth is typed first.
+use Prim.Native.Nat.{ℕ, _+_, _/_, _%_, _<_}
+use mathlib.Core.Path.{sym, ap, _∙_}
+use mathlib.Core.List.{List, [], _∷_}
+use native.Mathlib.Omega.{arith}
+use borrow.Author.Needs.{needs}
+use Rattle.vetting.specs.declared.Line.{Line}
+use Rattle.vetting.specs.Program.{decimal}
+use Rattle.vetting.specs.Walking.{typed}
+use Rattle.vetting.proofs.LineLaws.{typed-length, typed-append, one-digit, last-digit, tenth-length}
+use borrow.Fn.Kinds.{In}
+use borrow.Fn.PlainCycle.{Measures, is, falls, and}
+use Rattle.vetting.proofs.Line.put_decimal.Reads as put-decimal
+use Rattle.vetting.proofs.Line.put_decimal.Kinds as put-decimal-kinds
+use Rattle.vetting.proofs.Line.+put_decimal.Lts-put_decimal as put-decimal-lts
+use Rattle.vetting.proofs.Line.put.Reads as put-reads
+use Rattle.vetting.proofs.Line.+put_decimal.{statement}
+use Rattle.vetting.proofs.Line.+put_decimal.Tie.{close}
+
+abbrev μ-put-decimal : Measures 0 put-decimal-kinds.ps ℕ
+μ-put-decimal κs a = a .1 .0
+
+abbrev put-decimal-at : ℕ → In 0 put-decimal-kinds.ps
+put-decimal-at t =
+    and 0 put-decimal-kinds.ps (is 0 put-decimal-kinds.ps μ-put-decimal t) put-decimal.Pre
+
+abbrev put-decimal-below : ℕ → In 0 put-decimal-kinds.ps
+put-decimal-below t =
+    and 0 put-decimal-kinds.ps (falls 0 put-decimal-kinds.ps _<_ μ-put-decimal t) put-decimal.Pre
+
+-- src/program.rt:68:34
+put-decimal-cast-put : (t : ℕ) → put-decimal-lts.Need-cast-put (
+  put-reads.Asked,
+  put-reads.Learnt,
+  put-decimal-below t,
+  put-decimal.Post,
+) (put-decimal-at t) put-decimal.Post
+put-decimal-cast-put t c = search needs
+
+-- src/program.rt:68:29
+put-decimal-add-put : (t : ℕ) → put-decimal-lts.Need-add-put (
+  put-reads.Asked,
+  put-reads.Learnt,
+  put-decimal-below t,
+  put-decimal.Post,
+) (put-decimal-at t) put-decimal.Post
+put-decimal-add-put t c = search needs
+
+-- src/program.rt:68:13
+put-decimal-put-requires : (t : ℕ) → put-decimal-lts.Need-put-requires (
+  put-reads.Asked,
+  put-reads.Learnt,
+  put-decimal-below t,
+  put-decimal.Post,
+) (put-decimal-at t) put-decimal.Post
+put-decimal-put-requires t c κs = omega arith
+
+-- src/program.rt:68:13
+put-decimal-returns : (t : ℕ) → put-decimal-lts.Need-returns (
+  put-reads.Asked,
+  put-reads.Learnt,
+  put-decimal-below t,
+  put-decimal.Post,
+) (put-decimal-at t) put-decimal.Post
+put-decimal-returns t c =
+    let a = c .before .before .args in
+    c .put .ensures ∙ ap (typed (a .self)) (sym (one-digit (a .n) (c .before .if1 .taken)))
+
+-- src/program.rt:70:13
+put-decimal-put-decimal-requires : (t : ℕ) → put-decimal-lts.Need-put-decimal-requires (
+  put-reads.Asked,
+  put-reads.Learnt,
+  put-decimal-below t,
+  put-decimal.Post,
+) (put-decimal-at t) put-decimal.Post
+put-decimal-put-decimal-requires t c κs = (omega arith, omega arith)
+
+-- src/program.rt:71:23
+put-decimal-cast-put-2 : (t : ℕ) → put-decimal-lts.Need-cast-put-2 (
+  put-reads.Asked,
+  put-reads.Learnt,
+  put-decimal-below t,
+  put-decimal.Post,
+) (put-decimal-at t) put-decimal.Post
+put-decimal-cast-put-2 t c = search needs
+
+-- src/program.rt:71:18
+put-decimal-add-put-2 : (t : ℕ) → put-decimal-lts.Need-add-put-2 (
+  put-reads.Asked,
+  put-reads.Learnt,
+  put-decimal-below t,
+  put-decimal.Post,
+) (put-decimal-at t) put-decimal.Post
+put-decimal-add-put-2 t c = search needs
+
+-- src/program.rt:71:9
+put-decimal-put-requires-2 : (t : ℕ) → put-decimal-lts.Need-put-requires-2 (
+  put-reads.Asked,
+  put-reads.Learnt,
+  put-decimal-below t,
+  put-decimal.Post,
+) (put-decimal-at t) put-decimal.Post
+put-decimal-put-requires-2 t c κs =
+    let a = c .before .before .args in
+    omega (arith, ap (λ (l : Line). l .length) (c .put-decimal .ensures), typed-length (a .self) (decimal (a .n / 10)), tenth-length (a .n) (omega arith))
+
+-- src/program.rt:63:5
+put-decimal-returns-2 : (t : ℕ) → put-decimal-lts.Need-returns-2 (
+  put-reads.Asked,
+  put-reads.Learnt,
+  put-decimal-below t,
+  put-decimal.Post,
+) (put-decimal-at t) put-decimal.Post
+put-decimal-returns-2 t c =
+    let a = c .before .before .before .args in
+    let last : List ℕ = (0x30 + a .n % 10) ∷ [] in
+    c .put2 .ensures
+    ∙ ap (λ (l : Line). typed l last) (c .before .put-decimal .ensures)
+    ∙ sym (typed-append (a .self) (decimal (a .n / 10)) last)
+    ∙ ap (typed (a .self)) (sym (last-digit (a .n) (omega arith) (c .before .before .if1 .left)))
+
+pub +put-decimal-spec : {M : Type 1} → statement M
++put-decimal-spec = close μ-put-decimal λ t. put-decimal-lts.spec (
+  put-reads.Asked,
+  put-reads.Learnt,
+  put-decimal-below t,
+  put-decimal.Post,
+)
+    (put-decimal-at t)
+    put-decimal.Post
+    (put-decimal-cast-put t)
+    (put-decimal-add-put t)
+    (put-decimal-put-requires t)
+    (put-decimal-returns t)
+    (put-decimal-put-decimal-requires t)
+    (put-decimal-cast-put-2 t)
+    (put-decimal-add-put-2 t)
+    (put-decimal-put-requires-2 t)
+    (put-decimal-returns-2 t)

@@ -1,0 +1,146 @@
+use borrow.Author.Needs.{needs}
+use borrow.Author.Tests.{lt-ltb, le-ltb}
+use mathlib.Core.Path.{_≡_, sym, ap, ap₂, _∙_}
+use mathlib.Core.Bool.{Bool, true, false, cond}
+use mathlib.Core.List.{List, _++_}
+use Prim.Native.Nat.{ℕ, _+_, _-_, _*_, _≤_}
+use native.Mathlib.Omega.{arith}
+use lib.Dec.{ltb}
+use lib.ListN.{length, take, length-append}
+use lib.Seq.{take-append-seam}
+use Rattle.refusals.specs.declared.Code.{Code}
+use Rattle.refusals.specs.Codes.{accepted, code, codeOf, firstOf}
+use Rattle.refusals.proofs.CodeLaws.{accepted-takes}
+use Rattle.matrices.specs.Linear.{zeros}
+use Rattle.vetting.specs.declared.Plan.{Plan}
+use Rattle.vetting.specs.Plans.{usersOf, inBounds, noPlan, plannedCode, plannedPlan}
+use Rattle.vetting.specs.Verdict.{vetChecks, verdict}
+use Rattle.vetting.specs.Records.{start, planRead, tableRead, readChecks, readVerdict, padded}
+use Rattle.vetting.specs.Program.{programCode}
+use Rattle.vetting.proofs.Orders.{first-refuses, rest-decides}
+use Rattle.vetting.proofs.RecordChecks.{Readable, readable}
+use Rattle.vetting.proofs.Bytes.{length-words}
+use Rattle.vetting.proofs.program.vet_record.Statement.{statement}
+use Rattle.vetting.proofs.program.vet_record.Tie as tie
+
+-- an input that is not too long
+short : (B lent : List ℕ) → lent ≡ zeros 256 → length B ≤ 65535 → firstOf (readChecks B lent ++ vetChecks (planRead B) (tableRead B)) ≡ programCode B
+short B lent e h =
+    let rest : List ℕ → Code = λ l. firstOf (readChecks B l ++ vetChecks (planRead B) (tableRead B)) in
+    ap rest e ∙ ap (λ (b : Bool). cond b (code 4) (rest (zeros 256))) (sym (le-ltb 65535 (length B) h))
+
+-- ---- what the reader says
+
+module _ (c : tie.After-plan) where
+  abbrev B : List ℕ
+  B = c .before .before .before .before .before .before .before .before .args .bytes .now
+
+  -- the table that was lent, and what it holds then
+  abbrev lent : List ℕ
+  lent = c .before .before .before .before .before .empty-table .result
+
+  abbrev filled : List ℕ
+  filled = c .before .before .before .read-record .last .1 .0
+
+  told : accepted ≡ readVerdict B lent
+  told = sym (ap plannedCode (c .plan .given .1)) ∙ c .before .before .before .read-record .ensures .0
+
+  passed : Readable B lent
+  passed = readable B lent told
+
+  plan-is : c .plan .given .0 .0 ≡ planRead B
+  plan-is =
+      sym (ap plannedPlan (c .plan .given .1)) ∙ c .before .before .before .read-record .ensures .1 .0
+      ∙ accepted-takes (readVerdict B lent) (planRead B) noPlan told
+
+  table-is : filled ≡ padded (tableRead B)
+  table-is =
+      c .before .before .before .read-record .ensures .1 .1 ∙ accepted-takes (readVerdict B lent) (padded (tableRead B)) lent told
+
+  in-range : inBounds (c .plan .given .0 .0) ≡ true
+  in-range = ap inBounds plan-is ∙ passed .bounds
+
+  -- the first n symbols of what it holds
+  module _ (n : ℕ) (counted : n ≡ usersOf (c .plan .given .0 .0) * c .plan .given .0 .0 .rate) where
+    whole : n ≡ length (tableRead B)
+    whole =
+        counted ∙ ap (λ (X : Plan). usersOf X * X .rate) plan-is
+        ∙ sym (length-words (usersOf (planRead B) * planRead B .rate) B (start B + 6))
+
+    part-is : take n filled ≡ tableRead B
+    part-is = ap₂ (λ (k : ℕ) (l : List ℕ). take k l) whole table-is ∙ take-append-seam (tableRead B) (zeros (256 - length (tableRead B)))
+
+    inside : n ≤ length filled
+    inside =
+        omega (arith, whole, ap length table-is, length-append (tableRead B) (zeros (256 - length (tableRead B))))
+
+    part-length : n ≡ length (take n filled)
+    part-length = whole ∙ sym (ap length part-is)
+
+    vetted : (v : Code) → v ≡ verdict (c .plan .given .0 .0) (take n filled) → v ≡ firstOf (readChecks B lent ++ vetChecks (planRead B) (tableRead B))
+    vetted v e =
+        e ∙ ap₂ verdict plan-is part-is
+        ∙ rest-decides (readChecks B lent) (vetChecks (planRead B) (tableRead B)) tt told
+
+-- src/program.rt:38:9
+returns : tie.Need-returns
+returns c = simp (lt-ltb _ _ (c .if1 .taken))
+
+empty-table-requires : tie.Need-empty-table-requires
+empty-table-requires c κs = search needs
+
+slice-aggregate-read-record : tie.Need-slice-aggregate-read-record
+slice-aggregate-read-record c = search needs
+
+read-record-requires : tie.Need-read-record-requires
+read-record-requires c κs = search needs
+
+enum-known-refusal : tie.Need-enum-known-refusal
+enum-known-refusal c = search needs
+
+enum-known-plan : tie.Need-enum-known-plan
+enum-known-plan c = search needs
+
+symbols-requires : tie.Need-symbols-requires
+symbols-requires c κs = in-range (c .before)
+
+array-share-prefix-table : tie.Need-array-share-prefix-table
+array-share-prefix-table c = inside (c .before .before) (c .symbols .result) (c .symbols .ensures)
+
+slice-aggregate-vet : tie.Need-slice-aggregate-vet
+slice-aggregate-vet c = part-length (c .before .before .before) (c .before .symbols .result) (c .before .symbols .ensures)
+
+vet-requires : tie.Need-vet-requires
+vet-requires c κs = search needs
+
+returns-2 : tie.Need-returns-2
+returns-2 c =
+    let s = c .before .before .before .before in
+    let bytes : List ℕ = s .before .before .before .before .before .args .bytes .now in
+    let r = c .before .refusal .given .0 .0 in
+    first-refuses (readChecks bytes (s .before .before .empty-table .result)) (vetChecks (planRead bytes) (tableRead bytes)) r
+    (sym (ap plannedCode (c .before .refusal .given .1)) ∙ s .read-record .ensures .0)
+    ∙ short bytes (s .before .before .empty-table .result) (s .before .before .empty-table .ensures) (s .before .before .before .if1 .left)
+
+returns-3 : tie.Need-returns-3
+returns-3 c =
+    let p = c .before .before .before .before in
+    vetted p (c .before .before .symbols .result) (c .before .before .symbols .ensures) _ (c .vet .ensures)
+    ∙ short (B p) (lent p) (p .before .before .before .before .before .empty-table .ensures) (p .before .before .before .before .before .before .if1 .left)
+
+pub vet-record-spec : {M : Type 1} → statement M
+vet-record-spec =
+    tie.close
+    (tie.spec
+    returns
+    empty-table-requires
+    slice-aggregate-read-record
+    read-record-requires
+    enum-known-refusal
+    enum-known-plan
+    symbols-requires
+    array-share-prefix-table
+    slice-aggregate-vet
+    vet-requires
+    returns-2
+    returns-3)
