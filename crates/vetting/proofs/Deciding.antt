@@ -105,13 +105,18 @@ zero-sum : (P : Plan) (K : List ℕ) → ((k : ℕ) → k < P .rate → columnSu
 unfolding columnSum
 zero-sum P K z = z
 
-pub found-verdict : (P : Plan) (K : List ℕ) → inBounds P ≡ true → length K ≡ usersOf P * P .rate → Prime (P .q) → allBelow (P .q) K ≡ true
-    → ((k : ℕ) → k < P .rate → columnSum P K k ≡ 0)
-    → foundCode (walked P (baseTable P K)) ≡ firstOf (map (leakCheck P K) (pairs (P .clusters) (P .size) (P .limit)))
-found-verdict P K b l p s z =
-    let valid : Vector (P .q) (usersOf P * P .rate) K
-    = record { size = l; small = λ i k. below-at (P .q) K (prime-pos p) (true→T (allBelow (P .q) K) s) i } in
-    first-leak P K (hit P (baseTable P K)) (pairs (P .clusters) (P .size) (P .limit))
-    (all-map (λ x. InWalk P (x .coalition) (x .observer)) (λ x. hit P (baseTable P K) (x .coalition) (x .observer) ≡ leaks (poolOf P K) (x .coalition) (x .observer))
-    (λ x w. decides P K (bounds-known P b) l p valid (zero-sum P K z) (x .coalition) (w .users) (x .observer) (w .observer))
-    (pairs (P .clusters) (P .size) (P .limit)) (pairs-in P))
+module _ (P : Plan) (K : List ℕ) (bounds : inBounds P ≡ true) (sized : length K ≡ usersOf P * P .rate) (prime : Prime (P .q)) (below : allBelow (P .q) K ≡ true)
+    (columns : (k : ℕ) → k < P .rate → columnSum P K k ≡ 0) where
+  -- the test on one pair decides whether it leaks
+  pub pair-verdict : (g w : ℕ) → g < 2 ^ usersOf P → w ≤ P .clusters → hit P (baseTable P K) g w ≡ leaks (poolOf P K) g w
+  pair-verdict g w low h =
+      let valid : Vector (P .q) (usersOf P * P .rate) K
+      = record { size = sized; small = λ i k. below-at (P .q) K (prime-pos prime) (true→T (allBelow (P .q) K) below) i } in
+      decides P K (bounds-known P bounds) sized prime valid (zero-sum P K columns) g low w h
+
+  pub found-verdict : foundCode (walked P (baseTable P K)) ≡ firstOf (map (leakCheck P K) (pairs (P .clusters) (P .size) (P .limit)))
+  found-verdict =
+      first-leak P K (hit P (baseTable P K)) (pairs (P .clusters) (P .size) (P .limit))
+      (all-map (λ x. InWalk P (x .coalition) (x .observer)) (λ x. hit P (baseTable P K) (x .coalition) (x .observer) ≡ leaks (poolOf P K) (x .coalition) (x .observer))
+      (λ x w. pair-verdict (x .coalition) (x .observer) (w .users) (w .observer))
+      (pairs (P .clusters) (P .size) (P .limit)) (pairs-in P))

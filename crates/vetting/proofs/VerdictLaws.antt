@@ -3,7 +3,7 @@ use mathlib.Core.Path.{_≡_, refl, sym, ap, _∙_}
 use mathlib.Core.Bool.{Bool, true, false, cond, not}
 use mathlib.Core.List.{List, [], _∷_, _++_, map}
 use mathlib.Core.Logic.{_≢_}
-use Prim.Native.Nat.{ℕ, zero, suc, _+_, _*_, _%_, _<_, suc-le-suc}
+use Prim.Native.Nat.{ℕ, zero, suc, _+_, _*_, _%_, _^_, _≤_, _<_, suc-le-suc}
 use native.Mathlib.Nat.{not-suc-le-zero, le-of-suc-le-suc, zero-lt-suc}
 use native.Mathlib.Decide.{decLt}
 use native.Mathlib.Omega.{arith}
@@ -19,14 +19,15 @@ use Rattle.arithmetic.proofs.Searches.{T-and}
 use Rattle.arithmetic.proofs.PrimeLaws.{true-prime}
 use Rattle.matrices.specs.Linear.{at}
 use Rattle.secrecy.specs.Lists.{tab}
+use Rattle.secrecy.specs.Leaks.{leaks}
 use Rattle.secrecy.proofs.Sums.{sum-cong}
 use Rattle.vetting.specs.declared.Plan.{Plan}
-use Rattle.vetting.specs.Plans.{usersOf, inBounds}
+use Rattle.vetting.specs.Plans.{poolOf, usersOf, inBounds}
 use Rattle.vetting.specs.Walk.{pairs}
 use Rattle.vetting.specs.Verdict.{columnSum, columnCheck, leakCheck, otherChecks, verdict}
-use Rattle.vetting.specs.Walking.{clusterSum, baseTable, walked, foundCode, tableChecks, columnChecks}
+use Rattle.vetting.specs.Walking.{clusterSum, baseTable, hit, walked, foundCode, tableChecks, columnChecks}
 use Rattle.vetting.proofs.Orders.{rest-decides}
-use Rattle.vetting.proofs.Deciding.{found-verdict}
+use Rattle.vetting.proofs.Deciding.{pair-verdict, found-verdict}
 
 -- ---- a plan and a table that passed
 
@@ -94,10 +95,20 @@ module _ (P : Plan) (K : List ℕ) where
       go (yes l) = z j l
       go (no n) = let same : j ≡ k = omega arith in ap (columnSum P K) same ∙ e
 
-  -- what the walk finds in a table that passed every other check
-  pub walk-verdict : accepted ≡ firstOf (otherChecks P K) → foundCode (walked P (baseTable P K)) ≡ verdict P K
-  walk-verdict e =
-      let t : T (numbered (otherChecks P K)) = columns-numbered (P .rate) (λ k. k) in
-      let p : Passed P K = table-passed P K (columnChecks P K) t e in
-      found-verdict P K (p .bounds) (p .size) (p .prime) (p .below) (columns-passed e)
-      ∙ rest-decides (otherChecks P K) (map (leakCheck P K) (pairs (P .clusters) (P .size) (P .limit))) t e
+  -- a table that passed every other check
+  module _ (e : accepted ≡ firstOf (otherChecks P K)) where
+    all-numbered : T (numbered (otherChecks P K))
+    all-numbered = columns-numbered (P .rate) (λ k. k)
+
+    passed : Passed P K
+    passed = table-passed P K (columnChecks P K) all-numbered e
+
+    -- what the test on one pair says
+    pub walk-pair : (g w : ℕ) → g < 2 ^ usersOf P → w ≤ P .clusters → hit P (baseTable P K) g w ≡ leaks (poolOf P K) g w
+    walk-pair = pair-verdict P K (passed .bounds) (passed .size) (passed .prime) (passed .below) (columns-passed e)
+
+    -- what the walk finds
+    pub walk-verdict : foundCode (walked P (baseTable P K)) ≡ verdict P K
+    walk-verdict =
+        found-verdict P K (passed .bounds) (passed .size) (passed .prime) (passed .below) (columns-passed e)
+        ∙ rest-decides (otherChecks P K) (map (leakCheck P K) (pairs (P .clusters) (P .size) (P .limit))) all-numbered e

@@ -1,0 +1,2 @@
+pub mod FullRank
+pub mod SmallPool
