@@ -1,0 +1,38 @@
+//! Compares the proved vet with a plain one on seeded plans, and times both.
+
+mod plain;
+mod proved;
+mod speed;
+mod tally;
+
+/// A number and two details, as the program prints them.
+#[derive(Clone, Copy, PartialEq, Eq, Debug)]
+pub struct Code(pub u16, pub u16, pub u16);
+
+#[derive(Clone, Debug)]
+pub struct Plan {
+    pub clusters: usize,
+    pub size: usize,
+    pub limit: usize,
+    pub rate: usize,
+    pub q: u16,
+    pub table: Vec<u16>,
+}
+
+impl Plan {
+    /// The plan that the maker's formula gives, vetted or not.
+    pub fn made(clusters: usize, size: usize, limit: usize, q: u16, gamma: u16) -> Plan {
+        let rate = plain::rate_of(clusters, size, limit);
+        let table = plain::made_table(clusters, size, limit, q, gamma);
+        Plan { clusters, size, limit, rate, q, table }
+    }
+}
+
+fn main() {
+    let word = std::env::args().nth(1).unwrap_or_default();
+    let differ = if word == "speed" { 0 } else { tally::compare() };
+    let met = if word == "compare" { true } else { speed::measure() };
+    if differ > 0 || !met {
+        std::process::exit(1);
+    }
+}
