@@ -4,12 +4,15 @@ ghost use Rattle.arithmetic.specs.Field.{residue, sumOf, differenceOf, o
 use crate::Symbol;
 use crate::Wide;
 
-// What n leaves when divided by q.
+// What n leaves when divided by q. A division costs more than a test, and many of an elimination's products are 0.
 fn reduce(q: Symbol, n: Wide) -> Symbol
     ensures { λ r. ⌜ r ≡ residue q n ⌝ }
 {
     if q == 0 {
         return 0;
+    }
+    if n < q as Wide {
+        return n as Symbol;
     }
     (n % q as Wide) as Symbol
 }
