@@ -1,5 +1,7 @@
-//! Compares the proved vet with a plain one on seeded plans, and times both.
+//! Compares the proved functions with plain ones on seeded plans, and times the vet. `compare` and `speed` do one of the two;
+//! `examples FOLDER` writes the record files of examples/.
 
+mod examples;
 mod plain;
 mod proved;
 mod speed;
@@ -30,6 +32,10 @@ impl Plan {
 
 fn main() {
     let word = std::env::args().nth(1).unwrap_or_default();
+    if word == "examples" {
+        let folder = std::env::args().nth(2).expect("the folder to write in");
+        return examples::write(folder.as_ref());
+    }
     let differ = if word == "speed" { 0 } else { tally::compare() };
     let met = if word == "compare" { true } else { speed::measure() };
     if differ > 0 || !met {

@@ -28,7 +28,7 @@ fn least(plan: &Plan, runs: usize) -> (f64, f64) {
 pub fn measure() -> bool {
     let mut met = true;
     println!("  U  V  T  R   proved ms   plain ms   ratio");
-    for (u, v, t, runs) in [(8, 2, 13, 5), (4, 4, 11, 5), (2, 8, 7, 9), (4, 4, 6, 9), (8, 2, 1, 200)] {
+    for (u, v, t, runs) in [(8, 2, 13, 9), (4, 4, 11, 9), (2, 8, 7, 21), (4, 4, 6, 31), (8, 2, 1, 200)] {
         let plan = Plan::made(u, v, t, 65521, 2);
         let (a, b) = least(&plan, runs);
         println!("{u:3}{v:3}{t:3}{:3}{:12.3}{:11.3}{:8.2}", plan.rate, a * 1e3, b * 1e3, a / b);

@@ -1,4 +1,4 @@
-//! The proved vet against the plain one on seeded plans.
+//! The proved functions against plain ones on seeded plans.
 
 use crate::{plain, proved, Plan};
 
@@ -76,14 +76,12 @@ fn seeded(s: &mut Seeded) -> Plan {
 }
 
 /// How many plans the two vets judge otherwise.
-pub fn compare() -> usize {
-    let mut s = Seeded(7);
+fn compare_vets(s: &mut Seeded, plans: usize) -> usize {
     let (mut differ, mut numbers, mut servers) = (0, [0usize; 15], 0);
-    let plans = 20_000;
     for t in 0..plans {
-        let mut plan = seeded(&mut s);
+        let mut plan = seeded(s);
         if t % 5 == 0 {
-            spoil(&mut s, &mut plan);
+            spoil(s, &mut plan);
         }
         let (a, b) = (proved::vet(&plan), plain::vet(&plan));
         numbers[b.0 as usize] += 1;
@@ -93,6 +91,75 @@ pub fn compare() -> usize {
             println!("proved {a:?}, plain {b:?}: {plan:?}");
         }
     }
-    println!("{plans} plans: {} accepted, {} leak ({servers} to the server), refused 1: {}, 2: {}, 3: {}, 4: {}, 6: {}; {differ} differ", numbers[0], numbers[7], numbers[1], numbers[2], numbers[3], numbers[4], numbers[6]);
+    println!("vet: {plans} plans, {servers} leak to the server first; {}; {differ} differ", counted(&numbers));
     differ
+}
+
+/// How often each number was answered.
+fn counted(numbers: &[usize; 15]) -> String {
+    let all: Vec<String> = (0..15).filter(|&n| numbers[n] > 0).map(|n| format!("{n}: {}", numbers[n])).collect();
+    all.join(", ")
+}
+
+/// How many tables the two makers make otherwise. A refused call must leave the lent table as it was.
+fn compare_makers(s: &mut Seeded, calls: usize) -> usize {
+    let (mut differ, mut numbers) = (0, [0usize; 15]);
+    for _ in 0..calls {
+        let (u, v) = (s.below(10), s.below(10));
+        let limit = s.below(4);
+        let q = if s.below(8) == 0 { s.next() as u16 } else { PRIMES[s.below(5)] };
+        let gamma = if s.below(8) == 0 { q } else { s.below(q.max(1) as usize) as u16 };
+        let fits = u > 0 && v > 0 && u * v <= 16;
+        let lent = if fits && s.below(8) > 0 { u * v * plain::rate_of(u, v, limit) } else { s.below(300) };
+        let old = vec![7u16; lent];
+        let mut table = old.clone();
+        let a = proved::make(u, v, limit, q, gamma, &mut table);
+        let (b, made) = plain::make(u, v, limit, q, gamma, lent);
+        numbers[b.0 as usize] += 1;
+        let wanted = if b.0 == 0 { &made } else { &old };
+        if a != b || table != *wanted {
+            differ += 1;
+            println!("maker: proved {a:?}, plain {b:?}: {u} {v} {limit} {q} {gamma} {lent}");
+        }
+    }
+    println!("maker: {calls} calls; {}; {differ} differ", counted(&numbers));
+    differ
+}
+
+/// How many keys the two derive otherwise. A refused call must leave the lent keys as they were.
+fn compare_keys(s: &mut Seeded, calls: usize) -> usize {
+    let (mut differ, mut numbers) = (0, [0usize; 15]);
+    for t in 0..calls {
+        let mut plan = seeded(s);
+        if t % 10 == 0 {
+            spoil(s, &mut plan);
+        }
+        let length = [0, 1, 2, 5, 63, 64, 65][s.below(7)];
+        let spare = |s: &mut Seeded| (s.below(12) == 0) as usize;
+        let given = length * plan.rate.min(17) + spare(s);
+        let lent = (plan.clusters.min(9) * plan.size.min(9)) * length + spare(s);
+        let top = plan.q.max(1) as usize;
+        let mut source: Vec<u16> = (0..given).map(|_| s.below(top) as u16).collect();
+        if s.below(12) == 0 && given > 0 {
+            source[s.below(given)] = plan.q;
+        }
+        let old = vec![7u16; lent];
+        let mut keys = old.clone();
+        let a = proved::derive(&plan, length, &source, &mut keys);
+        let (b, derived) = plain::derive(&plan, length, &source, lent);
+        numbers[b.0 as usize] += 1;
+        let wanted = if b.0 == 0 { &derived } else { &old };
+        if a != b || keys != *wanted {
+            differ += 1;
+            println!("keys: proved {a:?}, plain {b:?}: {length} {plan:?}");
+        }
+    }
+    println!("keys: {calls} calls; {}; {differ} differ", counted(&numbers));
+    differ
+}
+
+/// How many answers differ in all.
+pub fn compare() -> usize {
+    let mut s = Seeded(7);
+    compare_vets(&mut s, 20_000) + compare_makers(&mut s, 10_000) + compare_keys(&mut s, 10_000)
 }
