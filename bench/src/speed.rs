@@ -1,20 +1,36 @@
-//! Times, taken turn by turn in one run, the least of several.
+//! Processor times, taken turn by turn in one run, the least of several.
 
 use crate::{plain, proved, Code, Plan};
 use std::hint::black_box;
-use std::time::Instant;
 
 /// The share of the plain vet's time that the proved one may take, and the time of the usual plan in seconds.
 const BAR: f64 = 0.35;
 const USUAL: f64 = 0.001;
 
-fn timed(f: impl Fn(&Plan) -> Code, plan: &Plan) -> f64 {
-    let start = Instant::now();
-    assert_eq!(black_box(f(black_box(plan))), Code(0, 0, 0));
-    start.elapsed().as_secs_f64()
+#[repr(C)]
+struct Timespec {
+    seconds: i64,
+    nanoseconds: i64,
 }
 
-/// The least times of the proved vet and of the plain one; another load on the machine meets both.
+extern "C" {
+    fn clock_gettime(clock: i32, time: *mut Timespec) -> i32;
+}
+
+/// The processor time of this thread (Linux, x86-64): the turns of other programs on the machine don't count.
+fn processor_time() -> f64 {
+    let mut time = Timespec { seconds: 0, nanoseconds: 0 };
+    assert_eq!(unsafe { clock_gettime(3, &mut time) }, 0);
+    time.seconds as f64 + time.nanoseconds as f64 * 1e-9
+}
+
+fn timed(f: impl Fn(&Plan) -> Code, plan: &Plan) -> f64 {
+    let start = processor_time();
+    assert_eq!(black_box(f(black_box(plan))), Code(0, 0, 0));
+    processor_time() - start
+}
+
+/// The least times of the proved vet and of the plain one; a busy hour of the machine meets both.
 fn least(plan: &Plan, runs: usize) -> (f64, f64) {
     let (mut a, mut b) = (f64::MAX, f64::MAX);
     for _ in 0..runs {
