@@ -217,6 +217,14 @@ module _ (q rows cols i : ℕ) (T : List ℕ) where
   unfolding eliminatedFrom
   some-pivot from e = ap (λ (t : Bool). cond t (clearedBy q rows cols from (rowOf cols T i) T) T) e
 
+  -- with no row left to clear nothing changes
+  pub none-left : (from : ℕ) → from ≡ rows → hasPivot rows cols i T ≡ true → eliminatedFrom q rows cols from i T ≡ T
+  unfolding eachRow
+  none-left from h e =
+      let f : List ℕ → List ℕ = cleared q (pivotOf (rowOf cols T i)) (pivotRow q (rowOf cols T i)) in
+      let z : rows - from ≡ 0 = omega (arith, h) in
+      some-pivot from e ∙ ap (λ (n : ℕ). take (from * cols) T ++ eachRow f n cols (drop (from * cols) T)) z ∙ take-append-drop (from * cols) T
+
   pub length-eliminated : (from : ℕ) → rows * cols ≡ length T → from ≤ rows → length (eliminatedFrom q rows cols from i T) ≡ length T
   unfolding eliminatedFrom
   length-eliminated from e h = go (hasPivot rows cols i T)

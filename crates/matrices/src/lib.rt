@@ -99,7 +99,7 @@ fn clear_from(
     clear_rows(q, rows - from, cols, p, &mut table[start..], &s[..cols]);
 }
 
-// Clears the rows from number `from` on by row i, where that is not 0; whether it is not.
+// Clears the rows from number `from` on by row i, where that is not 0; whether it is not. With no row left to clear, no inverse is taken.
 fn eliminate_from(
     q: Symbol,
     rows: usize,
@@ -116,6 +116,9 @@ fn eliminate_from(
     let p = pivot(&table[b..e]);
     if p >= cols {
         return false;
+    }
+    if from == rows {
+        return true;
     }
     clear_from(q, rows, cols, from, i, p, table);
     true

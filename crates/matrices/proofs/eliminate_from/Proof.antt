@@ -6,7 +6,7 @@ use native.Mathlib.Omega.{arith}
 use lib.Dec.{ltb}
 use lib.ListN.{length, take, drop}
 use Rattle.matrices.specs.Tables.{rowOf, pivotOf, hasPivot}
-use Rattle.matrices.proofs.Steps.{row-fits, pivot-is, no-pivot, some-pivot}
+use Rattle.matrices.proofs.Steps.{row-fits, pivot-is, no-pivot, some-pivot, none-left}
 use borrow.Author.Needs.{needs}
 use Rattle.matrices.proofs.eliminate_from.Statement.{statement}
 use Rattle.matrices.proofs.eliminate_from.Tie as tie
@@ -54,19 +54,32 @@ returns c =
     let s = c .before .before .before .before .before in
     no-pivot _ _ _ _ _ _ (is-pivot s ∙ le-ltb _ _ (subst (λ (n : ℕ). s .args .cols ≤ n) (found s (c .before .pivot .ensures)) (c .if1 .taken)))
 
-clear-from-requires : tie.Need-clear-from-requires
-clear-from-requires c κs =
-    let s = c .before .before .before .before .before .before in
-    (s .pre .2, s .pre .1, s .pre .3, s .pre .4, c .before .if1 .left, found s (c .before .before .pivot .ensures))
+-- row i is not 0
+has : (c : tie.Else1) → (let a = c .before .before .before .before .before .args in hasPivot (a .rows) (a .cols) (a .i) (a .table .now) ≡ true)
+has c =
+    let s = c .before .before .before .before .before in
+    is-pivot s ∙ lt-ltb _ _ (subst (λ (n : ℕ). n < s .args .cols) (found s (c .before .pivot .ensures)) (c .if1 .left))
 
 same-length-2 : tie.Need-same-length-2
 same-length-2 c = search needs
 
 returns-2 : tie.Need-returns-2
 returns-2 c =
-    let s = c .before .before .before .before .before .before .before .before .before in
-    let a = s .args in
-    let e : hasPivot (a .rows) (a .cols) (a .i) (a .table .now) ≡ true = is-pivot s ∙ lt-ltb _ _ (subst (λ (n : ℕ). n < a .cols) (found s (c .before .before .before .before .before .pivot .ensures)) (c .before .before .before .before .if1 .left)) in
+    let a = c .before .before .before .before .before .before .args in
+    (sym (has (c .before)), sym (none-left (a .q) (a .rows) (a .cols) (a .i) (a .table .now) (a .from) (c .if2 .taken) (has (c .before))))
+
+clear-from-requires : tie.Need-clear-from-requires
+clear-from-requires c κs =
+    let s = c .before .before .before .before .before .before .before in
+    (s .pre .2, s .pre .1, s .pre .3, s .pre .4, c .before .before .if1 .left, found s (c .before .before .before .pivot .ensures))
+
+same-length-3 : tie.Need-same-length-3
+same-length-3 c = search needs
+
+returns-3 : tie.Need-returns-3
+returns-3 c =
+    let a = c .before .before .before .before .before .before .before .before .before .before .args in
+    let e = has (c .before .before .before .before .before) in
     (sym e, c .before .before .clear-from .ensures ∙ sym (some-pivot (a .q) (a .rows) (a .cols) (a .i) (a .table .now) (a .from) e))
 
 pub eliminate-from-spec : {M : Type 1} → statement M
@@ -82,6 +95,8 @@ eliminate-from-spec =
     pivot-requires
     same-length
     returns
-    clear-from-requires
     same-length-2
-    returns-2)
+    returns-2
+    clear-from-requires
+    same-length-3
+    returns-3)

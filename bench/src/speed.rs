@@ -1,0 +1,55 @@
+//! Processor times, taken turn by turn in one run, the least of several.
+
+use crate::{plain, proved, Code, Plan};
+use std::hint::black_box;
+
+/// The share of the plain vet's time that the proved one may take, and the time of the usual plan in seconds.
+const BAR: f64 = 0.35;
+const USUAL: f64 = 0.001;
+
+#[repr(C)]
+struct Timespec {
+    seconds: i64,
+    nanoseconds: i64,
+}
+
+extern "C" {
+    fn clock_gettime(clock: i32, time: *mut Timespec) -> i32;
+}
+
+/// The processor time of this thread (Linux, x86-64): the turns of other programs on the machine don't count.
+fn processor_time() -> f64 {
+    let mut time = Timespec { seconds: 0, nanoseconds: 0 };
+    assert_eq!(unsafe { clock_gettime(3, &mut time) }, 0);
+    time.seconds as f64 + time.nanoseconds as f64 * 1e-9
+}
+
+fn timed(f: impl Fn(&Plan) -> Code, plan: &Plan) -> f64 {
+    let start = processor_time();
+    assert_eq!(black_box(f(black_box(plan))), Code(0, 0, 0));
+    processor_time() - start
+}
+
+/// The least times of the proved vet and of the plain one; a busy hour of the machine meets both.
+fn least(plan: &Plan, runs: usize) -> (f64, f64) {
+    let (mut a, mut b) = (f64::MAX, f64::MAX);
+    for _ in 0..runs {
+        a = a.min(timed(proved::vet, plan));
+        b = b.min(timed(plain::vet, plan));
+    }
+    (a, b)
+}
+
+/// Whether every bar is met.
+pub fn measure() -> bool {
+    let mut met = true;
+    println!("  U  V  T  R   proved ms   plain ms   ratio");
+    for (u, v, t, runs) in [(8, 2, 13, 9), (4, 4, 11, 9), (2, 8, 7, 21), (4, 4, 6, 31), (8, 2, 1, 200)] {
+        let plan = Plan::made(u, v, t, 65521, 2);
+        let (a, b) = least(&plan, runs);
+        println!("{u:3}{v:3}{t:3}{:3}{:12.3}{:11.3}{:8.2}", plan.rate, a * 1e3, b * 1e3, a / b);
+        met &= if t == 1 { a < USUAL } else { a <= BAR * b };
+    }
+    println!("bars (ratio at most {BAR} in the large plans, under {} ms in the last): {}", USUAL * 1e3, if met { "met" } else { "NOT met" });
+    met
+}
