@@ -80,13 +80,7 @@ fn write_unmasked(q: Symbol, upload: &[Symbol], key: &[Symbol], out: &mut [Symbo
 
 // The refusals of both: they ask the same of their blocks. The last test ends at the first number that is no symbol, so its time tells
 // where that stands; of symbols it tells nothing.
-fn check_blocks(
-    q: Symbol,
-    length: usize,
-    a: &[Symbol],
-    b: &[Symbol],
-    out: &[Symbol],
-) -> Verdict
+fn check_blocks(q: Symbol, length: usize, a: &[Symbol], b: &[Symbol], out: &[Symbol]) -> Verdict
     ensures { λ r. ⌜ verdictCode r ≡ firstOf (blockChecks q length (now (a .entry)) (now (b .entry)) (now (out .entry))) ⌝ }
 {
     if !is_prime(q) {

@@ -4,10 +4,10 @@ mod streams;
 
 pub use blocks::unmask;
 pub use blocks::upload;
+use refusals::Verdict;
 pub use streams::draw;
 pub use streams::draw_at;
 pub use streams::draw_from;
-use refusals::Verdict;
 
 // A place on a key stream: the symbols before it are used up.
 pub struct Position {

@@ -64,7 +64,12 @@ pub fn draw_at(stream: &[Symbol], at: usize, length: usize, out: &mut [Symbol]) 
 }
 
 // The next L symbols of the stream, and the position moved past them.
-pub fn draw(stream: &[Symbol], position: &mut Position, length: usize, out: &mut [Symbol]) -> Verdict
+pub fn draw(
+    stream: &[Symbol],
+    position: &mut Position,
+    length: usize,
+    out: &mut [Symbol],
+) -> Verdict
     ensures { λ r. ⌜ (verdictCode r ≡ drawCode (now (stream .entry)) (now (position .entry) .at) length (now (out .entry)))
         × (now (position .exit) .at ≡ positionAfter (now (stream .entry)) (now (position .entry) .at) length (now (out .entry)))
         × (now (out .exit) ≡ bufferAfter (now (stream .entry)) (now (position .entry) .at) length (now (out .entry))) ⌝ }

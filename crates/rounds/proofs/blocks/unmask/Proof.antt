@@ -49,11 +49,12 @@ returns-2 c =
     let s = c .before .before .before .before .before .before .before .before .before .before .before in
     let a = s .args in
     let e : accepted ≡ code s = told (c .before .before .before .before) in
-    let f = fitting (a .q) (a .length) (a .upload .now) (a .key .now) (a .out .now) e in
-    (e,
-    c .before .before .write-unmasked .ensures
-    ∙ ap (λ (n : ℕ). unmaskedOf (a .q) n (a .upload .now) (a .key .now)) (f .room)
-    ∙ sym (accepted-takes (code s) _ (a .out .now) e))
+    let f = fitting (a .q) (a .length) (a .upload .now) (a .key .now) (a .out .now) e in (
+      e,
+      c .before .before .write-unmasked .ensures
+          ∙ ap (λ (n : ℕ). unmaskedOf (a .q) n (a .upload .now) (a .key .now)) (f .room)
+          ∙ sym (accepted-takes (code s) _ (a .out .now) e),
+    )
 
 pub unmask-spec : {M : Type 1} → statement M
 unmask-spec =

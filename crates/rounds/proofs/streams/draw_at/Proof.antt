@@ -56,12 +56,13 @@ returns-2 c =
     let s = c .before .before .before .before .before .before .before .before .before .before in
     let a = s .args in
     let t = c .before .before .before .before in
-    let e : accepted ≡ code s = told t in
-    (e,
-    sym (accepted-takes (code s) (a .at + a .length) (a .at) e),
-    c .before .before .copy-from .ensures
-    ∙ ap (drawn (a .stream .now) (a .at)) (known t .room)
-    ∙ sym (accepted-takes (code s) _ (a .out .now) e))
+    let e : accepted ≡ code s = told t in (
+      e,
+      sym (accepted-takes (code s) (a .at + a .length) (a .at) e),
+      c .before .before .copy-from .ensures
+          ∙ ap (drawn (a .stream .now) (a .at)) (known t .room)
+          ∙ sym (accepted-takes (code s) _ (a .out .now) e),
+    )
 
 pub draw-at-spec : {M : Type 1} → statement M
 draw-at-spec =
