@@ -1,24 +1,24 @@
 -- Laws of blocks: a sum or difference reduced by one subtraction, and that taking the key off an upload gives the readings back.
 use Prim.Native.Nat.{ℕ, _+_, _-_, _≤_, _<_}
-use mathlib.Core.Path.{_≡_, sym, ap, _∙_}
+use mathlib.Core.Path.{_≡_, sym, ap, _∙_, subst}
 use mathlib.Core.Bool.{_&&_}
 use mathlib.Core.List.{List}
-use native.Mathlib.Nat.{mod-eq-of-lt}
+use native.Mathlib.Nat.{mod-eq-of-lt, mod-lt}
 use native.Mathlib.Omega.{arith}
 use lib.ListN.{length}
 use lib.Dec.{T, eqb, eqb→eq}
-use borrow.Author.Tests.{not-false}
+use borrow.Author.Tests.{not-false, eq-eqb}
 use Rattle.refusals.specs.Codes.{accepted, firstOf}
 use Rattle.refusals.proofs.CodeLaws.{none-holds}
 use Rattle.arithmetic.specs.Primes.{isPrime, allBelow}
 use Rattle.arithmetic.specs.Field.{residue, sumOf, differenceOf}
-use Rattle.arithmetic.proofs.Searches.{true→T, T-and}
-use Rattle.arithmetic.proofs.PrimeLaws.{prime-pos, true-prime}
+use Rattle.arithmetic.proofs.Searches.{true→T, T→true, T-and}
+use Rattle.arithmetic.proofs.PrimeLaws.{prime-pos, true-prime, at-below}
 use Rattle.arithmetic.proofs.Congruence.{to-mod, residue-mod}
 use Rattle.arithmetic.proofs.FieldLaws.{sum-difference}
 use Rattle.matrices.specs.Linear.{at, Vector}
-use Rattle.secrecy.proofs.ListLaws.{at-tab, tab-at}
-use Rattle.rounds.specs.Blocks.{uploadOf, unmaskedOf, blockChecks}
+use Rattle.secrecy.proofs.ListLaws.{at-tab, tab-at, tab-vector}
+use Rattle.rounds.specs.Blocks.{lengthFits, uploadOf, unmaskedOf, blockChecks}
 
 -- ---- one subtraction
 
@@ -63,6 +63,12 @@ fitting q L a b out e =
 
 -- ---- there and back
 
+-- an upload is a block of symbols
+pub upload-vector : (q L : ℕ) (W K : List ℕ) → 0 < q → Vector q L (uploadOf q L W K)
+upload-vector q L W K h =
+    tab-vector q L (λ p. sumOf q (at W p) (at K p))
+    (λ p _. subst (λ (n : ℕ). n < q) (sym (residue-mod q (at W p + at K p) h)) (mod-lt (at W p + at K p) h))
+
 -- taking the key off an upload gives the readings back; of q and the key it asks nothing
 pub unmask-upload : (q L : ℕ) (W K : List ℕ) → Vector q L W → unmaskedOf q L (uploadOf q L W K) K ≡ W
 unmask-upload q L W K w =
@@ -70,3 +76,21 @@ unmask-upload q L W K w =
     (λ p l.
     ap (λ (x : ℕ). differenceOf q x (at K p)) (at-tab L (λ p. sumOf q (at W p) (at K p)) p l)
     ∙ sum-difference q (at W p) (at K p) (w .small p l))
+
+-- and that call is not refused, whatever buffer of L symbols is lent to it
+pub unmask-accepts : (q L : ℕ) (W K out back : List ℕ) → accepted ≡ firstOf (blockChecks q L W K out) → length back ≡ L
+    → accepted ≡ firstOf (blockChecks q L (uploadOf q L W K) K back)
+unmask-accepts q L W K out back e room =
+    let w = none-holds (blockChecks q L W K out) tt e in
+    let f = fitting q L W K out e in
+    let v : Vector q L (uploadOf q L W K) = upload-vector q L W K (f .positive) in
+    let below : T (allBelow q (uploadOf q L W K)) = at-below q (uploadOf q L W K) (λ i l. v .small i (subst (λ (n : ℕ). i < n) (v .size) l)) in
+    simp (
+      not-false (isPrime q) (w .0),
+      not-false (lengthFits L) (w .1 .0),
+      eq-eqb (length (uploadOf q L W K)) L (v .size),
+      eq-eqb (length K) L (f .second),
+      eq-eqb (length back) L room,
+      T→true (allBelow q (uploadOf q L W K)) below,
+      T→true (allBelow q K) (f .second-below),
+    )

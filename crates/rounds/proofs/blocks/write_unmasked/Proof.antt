@@ -1,7 +1,7 @@
 -- The invariant: the differences written are those of the positions passed.
 use borrow.Author.Needs.{needs}
 use mathlib.Core.Path.{refl, sym, _∙_}
-use Prim.Native.Nat.{_-_}
+use Prim.Native.Nat.{_-_, _<_}
 use native.Mathlib.Omega.{arith}
 use lib.ListN.{length, length-set}
 use Rattle.arithmetic.specs.Field.{differenceOf}
@@ -39,7 +39,9 @@ sub-reduced-requires c κs =
     let s = c .before .before .before .loop in
     let start = c .before .before .before .before .before .before .before in
     let a = start .args in
-    (below-at (a .q) (a .upload .now) (start .pre .0) (start .pre .3) (s .p), below-at (a .q) (a .key .now) (start .pre .0) (start .pre .4) (s .p))
+    let first : at (a .upload .now) (s .p) < a .q = below-at (a .q) (a .upload .now) (start .pre .0) (start .pre .3) (s .p) in
+    let second : at (a .key .now) (s .p) < a .q = below-at (a .q) (a .key .now) (start .pre .0) (start .pre .4) (s .p) in
+    (omega (arith, start .pre .0), omega (arith, start .pre .0))
 
 mul-out : tie.Need-mul-out Inv-loop μ-loop
 mul-out c = search needs
