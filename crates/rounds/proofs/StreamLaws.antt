@@ -1,21 +1,21 @@
 -- Laws of the key stream.
 use Prim.Native.Nat.{ℕ, zero, suc, _+_, _-_, _≤_, _<_}
-use mathlib.Core.Path.{_≡_, sym, ap, _∙_}
-use mathlib.Core.Bool.{Bool, true, false, cond, _&&_}
+use mathlib.Core.Path.{_≡_, refl, sym, ap, _∙_}
+use mathlib.Core.Bool.{Bool, true, false, cond, not, _&&_}
 use mathlib.Core.List.{List, [], _∷_, _++_}
 use native.Mathlib.Nat.{zero-add, suc-add}
 use native.Mathlib.Omega.{arith}
 use lib.ListN.{length, take, drop}
 use lib.Seq.{take-add, drop-drop}
-use lib.Dec.{ltb, leb, eqb, eqb→eq, leb→le}
+use lib.Dec.{T, ltb, leb, eqb, eqb→eq, leb→le}
 use borrow.Author.Tests.{lt-ltb, ltb-false, not-false}
-use Rattle.refusals.specs.Codes.{accepted}
+use Rattle.refusals.specs.Codes.{code, accepted, firstOf}
 use Rattle.refusals.proofs.CodeLaws.{none-holds}
 use Rattle.arithmetic.proofs.Searches.{true→T, T-and}
 use Rattle.matrices.specs.Linear.{at}
 use Rattle.secrecy.specs.Lists.{tab}
 use Rattle.secrecy.proofs.ListLaws.{at-tab, length-tab, tab-cong}
-use Rattle.vetting.proofs.Fronts.{part-at}
+use Rattle.vetting.proofs.Fronts.{length-part, part-at}
 use Rattle.rounds.specs.Blocks.{lengthFits}
 use Rattle.rounds.specs.Streams.{drawChecks, drawCode, drawn, positionAfterAll, symbolsDrawn, placesDrawn}
 
@@ -45,6 +45,13 @@ drawable stream position L out e =
       enough = omega arith;
     }
 
+-- a draw whose number is 0 is accepted
+number-accepts : (length room short : Bool) → (let c = firstOf ((length, code 9) ∷ (room, code 4) ∷ (short, code 13) ∷ []) in T (eqb (c .number) 0) → accepted ≡ c)
+number-accepts true room short t = absurd t
+number-accepts false true short t = absurd t
+number-accepts false false true t = absurd t
+number-accepts false false false t = refl
+
 -- ---- runs of draws
 
 tab-append : (m n : ℕ) (f : ℕ → ℕ) → tab (m + n) f ≡ tab m f ++ tab n (λ k. f (m + k))
@@ -69,6 +76,19 @@ module _ (stream : List ℕ) where
       go : (b : Bool) → ((p : ℕ) → p ≤ positionAfterAll stream p draws) → position ≤ positionAfterAll stream (cond b (position + draw .0) position) draws
       go true later = omega (arith, later (position + draw .0))
       go false later = later position
+
+  -- nor past the stream's end
+  pub draws-within : (position : ℕ) (draws : List (ℕ × List ℕ)) → position ≤ length stream → positionAfterAll stream position draws ≤ length stream
+  draws-within position [] h = h
+  draws-within position (draw ∷ draws) h =
+      go (takes position draw)
+      (λ t. drawable stream position (draw .0) (draw .1) (number-accepts (not (lengthFits (draw .0))) (not (eqb (length (draw .1)) (draw .0))) (ltb (length stream - position) (draw .0)) t) .enough)
+      (λ p. draws-within p draws)
+    where
+      go : (b : Bool) → (T b → position + draw .0 ≤ length stream) → ((p : ℕ) → p ≤ length stream → positionAfterAll stream p draws ≤ length stream)
+          → positionAfterAll stream (cond b (position + draw .0) position) draws ≤ length stream
+      go true fits later = later (position + draw .0) (fits tt)
+      go false fits later = later position h
 
   -- a run draws the symbols from the first position to the last, in order
   pub draws-give : (position : ℕ) (draws : List (ℕ × List ℕ)) → symbolsDrawn stream position draws ≡ drawn stream position (positionAfterAll stream position draws - position)
@@ -117,6 +137,13 @@ module _ (stream : List ℕ) where
     place k h =
         let l : k < count = omega (arith, ap length (draws-consecutive position draws), length-tab count (λ k. position + k)) in
         (l, ap (λ (p : List ℕ). at p k) (draws-consecutive position draws) ∙ at-tab count (λ k. position + k) k l)
+
+    -- there are as many places as symbols
+    pub draws-counted : position ≤ length stream → length (symbolsDrawn stream position draws) ≡ length places
+    draws-counted h =
+        ap length (draws-give position draws)
+        ∙ length-part count position stream (omega (arith, draws-forward position draws, draws-within position draws h))
+        ∙ sym (ap length (draws-consecutive position draws) ∙ length-tab count (λ k. position + k))
 
     -- each symbol drawn is the stream's at its place
     pub draws-placed : (k : ℕ) → k < length places → at (symbolsDrawn stream position draws) k ≡ at stream (at places k)

@@ -1,7 +1,7 @@
 -- The invariant: the symbols written are the first of those drawn.
 use borrow.Author.Needs.{needs}
 use mathlib.Core.Path.{refl, sym}
-use Prim.Native.Nat.{_+_, _-_}
+use Prim.Native.Nat.{_-_}
 use native.Mathlib.Omega.{arith}
 use lib.ListN.{length, length-set}
 use Rattle.vetting.proofs.Fronts.{Front, front-none, front-next, front-whole, length-part, part-at}
