@@ -17,7 +17,7 @@ pub mod ExactSecrecy
 pub mod PlanLaws
 pub mod KeyLaws
 pub mod MakerLaws
-mod Fronts
+pub mod Fronts
 mod RunningSum
 mod MakerSteps
 pub mod RecordLaws

@@ -1,0 +1,92 @@
+-- The invariant: the differences written are those of the positions passed.
+use borrow.Author.Needs.{needs}
+use mathlib.Core.Path.{refl, sym, _∙_}
+use Prim.Native.Nat.{_-_, _<_}
+use native.Mathlib.Omega.{arith}
+use lib.ListN.{length, length-set}
+use Rattle.arithmetic.specs.Field.{differenceOf}
+use Rattle.arithmetic.proofs.PrimeLaws.{below-at}
+use Rattle.matrices.specs.Linear.{at}
+use Rattle.secrecy.specs.Lists.{tab}
+use Rattle.secrecy.proofs.ListLaws.{at-tab, length-tab}
+use Rattle.vetting.proofs.Fronts.{Front, front-none, front-next, front-whole}
+use Rattle.rounds.proofs.blocks.write_unmasked.Statement.{statement}
+use Rattle.rounds.proofs.blocks.write_unmasked.Tie as tie
+
+abbrev Inv-loop : tie.InvT-loop
+Inv-loop q upload key out₀ p₀ out p = Front out₀ (tab (length out₀) (λ p. differenceOf q (at upload p) (at key p))) out p
+
+abbrev μ-loop : tie.MeasureT-loop
+μ-loop q upload key out₀ p₀ out p = length out - p
+
+loop-holds : tie.Need-loop-holds Inv-loop μ-loop
+loop-holds c = front-none _ _ 0 refl (length-tab _ _)
+
+mul-a : tie.Need-mul-a Inv-loop μ-loop
+mul-a c = search needs
+
+shared-slice-read-a : tie.Need-shared-slice-read-a Inv-loop μ-loop
+shared-slice-read-a c = search needs
+
+mul-b : tie.Need-mul-b Inv-loop μ-loop
+mul-b c = search needs
+
+shared-slice-read-b : tie.Need-shared-slice-read-b Inv-loop μ-loop
+shared-slice-read-b c = search needs
+
+sub-reduced-requires : tie.Need-sub-reduced-requires Inv-loop μ-loop
+sub-reduced-requires c κs =
+    let s = c .before .before .before .loop in
+    let start = c .before .before .before .before .before .before .before in
+    let a = start .args in
+    let first : at (a .upload .now) (s .p) < a .q = below-at (a .q) (a .upload .now) (start .pre .0) (start .pre .3) (s .p) in
+    let second : at (a .key .now) (s .p) < a .q = below-at (a .q) (a .key .now) (start .pre .0) (start .pre .4) (s .p) in
+    (omega (arith, start .pre .0), omega (arith, start .pre .0))
+
+mul-out : tie.Need-mul-out Inv-loop μ-loop
+mul-out c = search needs
+
+slice-write-out : tie.Need-slice-write-out Inv-loop μ-loop
+slice-write-out c = search needs
+
+add-p : tie.Need-add-p Inv-loop μ-loop
+add-p c = search needs
+
+loop-less : tie.Need-loop-less Inv-loop μ-loop
+loop-less c =
+    let s = c .before .before .before .before .loop in
+    omega (arith, length-set (s .out) (s .p) (c .sub-reduced .result), c .before .before .before .loop-test .taken)
+
+loop-again : tie.Need-loop-again Inv-loop μ-loop
+loop-again c =
+    let s = c .before .before .before .before .loop in
+    let a = c .before .before .before .before .before .before .before .before .args in
+    front-next _ _ (s .out) (s .p) (c .sub-reduced .result) (s .inv) (c .before .before .before .loop-test .taken)
+    (c .sub-reduced .ensures
+    ∙ sym (at-tab (length (a .out .now)) (λ p. differenceOf (a .q) (at (a .upload .now) p) (at (a .key .now) p)) (s .p) (omega (arith, c .before .before .before .loop-test .taken, s .inv .whole))))
+
+same-length : tie.Need-same-length Inv-loop μ-loop
+same-length c = c .before .loop .inv .whole
+
+returns : tie.Need-returns Inv-loop μ-loop
+returns c = front-whole _ _ _ (c .before .loop .p) (c .before .loop .inv) (c .loop-test .left)
+
+pub write-unmasked-spec : {M : Type 1} → statement M
+write-unmasked-spec =
+    tie.close
+    (tie.spec
+    Inv-loop
+    μ-loop
+    loop-holds
+    mul-a
+    shared-slice-read-a
+    mul-b
+    shared-slice-read-b
+    sub-reduced-requires
+    mul-out
+    slice-write-out
+    add-p
+    loop-less
+    loop-again
+    same-length
+    returns)

@@ -1,0 +1,74 @@
+-- The invariant: the symbols written are the first of those drawn.
+use borrow.Author.Needs.{needs}
+use mathlib.Core.Path.{refl, sym}
+use Prim.Native.Nat.{_-_}
+use native.Mathlib.Omega.{arith}
+use lib.ListN.{length, length-set}
+use Rattle.vetting.proofs.Fronts.{Front, front-none, front-next, front-whole, length-part, part-at}
+use Rattle.rounds.specs.Streams.{drawn}
+use Rattle.rounds.proofs.streams.copy_from.Statement.{statement}
+use Rattle.rounds.proofs.streams.copy_from.Tie as tie
+
+abbrev Inv-loop : tie.InvT-loop
+Inv-loop stream at out₀ i₀ out i = Front out₀ (drawn stream at (length out₀)) out i
+
+abbrev μ-loop : tie.MeasureT-loop
+μ-loop stream at out₀ i₀ out i = length out - i
+
+loop-holds : tie.Need-loop-holds Inv-loop μ-loop
+loop-holds c =
+    front-none _ _ 0 refl (length-part (length (c .args .out .now)) (c .args .at) (c .args .stream .now) (c .pre))
+
+add-out : tie.Need-add-out Inv-loop μ-loop
+add-out c = search needs
+
+mul-out : tie.Need-mul-out Inv-loop μ-loop
+mul-out c = search needs
+
+shared-slice-read-out : tie.Need-shared-slice-read-out Inv-loop μ-loop
+shared-slice-read-out c = search needs
+
+mul-out-2 : tie.Need-mul-out-2 Inv-loop μ-loop
+mul-out-2 c = search needs
+
+slice-write-out : tie.Need-slice-write-out Inv-loop μ-loop
+slice-write-out c = search needs
+
+add-i : tie.Need-add-i Inv-loop μ-loop
+add-i c = search needs
+
+loop-less : tie.Need-loop-less Inv-loop μ-loop
+loop-less c =
+    let s = c .before .before .loop in
+    simp length-set (omega (arith, c .before .loop-test .taken))
+
+loop-again : tie.Need-loop-again Inv-loop μ-loop
+loop-again c =
+    let s = c .before .before .loop in
+    let a = c .before .before .before .args in
+    front-next _ _ (s .out) (s .i) _ (s .inv) (c .before .loop-test .taken)
+    (sym (part-at (length (a .out .now)) (a .at) (a .stream .now) (s .i) (omega (arith, c .before .loop-test .taken, s .inv .whole))))
+
+same-length : tie.Need-same-length Inv-loop μ-loop
+same-length c = c .before .loop .inv .whole
+
+returns : tie.Need-returns Inv-loop μ-loop
+returns c = front-whole _ _ _ (c .before .loop .i) (c .before .loop .inv) (c .loop-test .left)
+
+pub copy-from-spec : {M : Type 1} → statement M
+copy-from-spec =
+    tie.close
+    (tie.spec
+    Inv-loop
+    μ-loop
+    loop-holds
+    add-out
+    mul-out
+    shared-slice-read-out
+    mul-out-2
+    slice-write-out
+    add-i
+    loop-less
+    loop-again
+    same-length
+    returns)
