@@ -1,11 +1,11 @@
-mod BitLaws
+pub mod BitLaws
 mod MaskLaws
 mod LevelLaws
 mod GatherLaws
 mod WalkLaws
 mod BaseLaws
 mod VerdictLaws
-mod Orders
+pub mod Orders
 mod PairLists
 pub mod PlanBounds
 mod PickedLaws

@@ -1,0 +1,2 @@
+mod StepLaws
+mod CheckLaws

@@ -1,0 +1,18 @@
+use borrow.Author.Needs.{needs}
+use Rattle.rounds.proofs.ServerRound.give.Statement.{statement}
+use Rattle.rounds.proofs.ServerRound.give.Tie as tie
+use Rattle.rounds.proofs.ServerRound.give.Reads as reads
+use Rattle.rounds.proofs.ServerRound.give.Lts as lts
+use Rattle.rounds.proofs.Round.give.Reads as give-reads
+
+give-requires : tie.Need-give-requires
+give-requires c κs = ?
+
+same-length : tie.Need-same-length
+same-length c = search needs
+
+returns : tie.Need-returns
+returns c = search needs
+
+pub give-spec : {M : Type 1} → statement M
+give-spec = tie.close (tie.spec give-requires same-length returns)

@@ -1,0 +1,33 @@
+-- Uploads, and taking a key off: block by block, L symbols each. Document 01, "Order": "Upload, and taking a key off: 2, 9, 4, 3."
+use Prim.Native.Nat.{ℕ}
+use mathlib.Core.Bool.{Bool, not, _&&_}
+use mathlib.Core.List.{List, [], _∷_}
+use lib.Dec.{leb, eqb}
+use lib.ListN.{length}
+use Rattle.refusals.specs.declared.Code.{Code}
+use Rattle.refusals.specs.Codes.{code}
+use Rattle.arithmetic.specs.Primes.{isPrime, allBelow}
+use Rattle.arithmetic.specs.Field.{sumOf, differenceOf}
+use Rattle.matrices.specs.Linear.{at}
+use Rattle.secrecy.specs.Lists.{tab}
+
+-- L from 1 to 64
+abbrev pub lengthFits : ℕ → Bool
+lengthFits L = leb 1 L && leb L 64
+
+-- upload = reading + key
+abbrev pub uploadOf : ℕ → ℕ → List ℕ → List ℕ → List ℕ
+uploadOf q L readings key = tab L (λ p. sumOf q (at readings p) (at key p))
+
+-- reading = upload - key
+abbrev pub unmaskedOf : ℕ → ℕ → List ℕ → List ℕ → List ℕ
+unmaskedOf q L upload key = tab L (λ p. differenceOf q (at upload p) (at key p))
+
+-- of two blocks and a lent one
+abbrev pub blockChecks : ℕ → ℕ → List ℕ → List ℕ → List ℕ → List (Bool × Code)
+blockChecks q L a b out =
+    (not (isPrime q), code 2)
+    ∷ (not (lengthFits L), code 9)
+    ∷ (not (eqb (length a) L && eqb (length b) L && eqb (length out) L), code 4)
+    ∷ (not (allBelow q a && allBelow q b), code 3)
+    ∷ []
