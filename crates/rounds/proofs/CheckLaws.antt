@@ -1,5 +1,5 @@
 -- The checks of a step, part by part: which part decides, and what is known of a state that passed.
-use Prim.Native.Nat.{ℕ, _-_, _≤_, _<_, _^_}
+use Prim.Native.Nat.{ℕ, suc, _-_, _≤_, _<_, _^_}
 use mathlib.Core.Path.{_≡_, refl, sym, ap, _∙_}
 use mathlib.Core.Bool.{Bool, true, false, cond, not, _&&_, _||_}
 use mathlib.Core.List.{List, [], _∷_, _++_}
@@ -11,6 +11,7 @@ use Rattle.refusals.specs.declared.Code.{Code}
 use Rattle.refusals.specs.declared.Refusal.{Refusal}
 use Rattle.refusals.specs.Codes.{code, accepted, codeOf, firstOf}
 use Rattle.refusals.proofs.CodeLaws.{none-holds, refused-keeps}
+use Rattle.arithmetic.specs.Search.{allTo}
 use Rattle.arithmetic.specs.Primes.{Prime, isPrime, allBelow}
 use Rattle.arithmetic.proofs.Searches.{T→true, true→T, T-and}
 use Rattle.arithmetic.proofs.PrimeLaws.{true-prime}
@@ -20,7 +21,7 @@ use Rattle.vetting.proofs.Orders.{first-accepts}
 use Rattle.rounds.specs.declared.Round.{Round}
 use Rattle.rounds.specs.Blocks.{lengthFits}
 use Rattle.rounds.specs.Ledger.{Frame, named}
-use Rattle.rounds.specs.Rounds.{hasBit, oneOf, openChecks, sumsFit, stateChecks, frameChecks}
+use Rattle.rounds.specs.Rounds.{hasBit, oneOf, openChecks, sumsFit, hasReported, stateChecks, frameChecks, giveChecks}
 use Rattle.rounds.specs.Machine.{contentChecks}
 
 -- ---- the tests of an opening, and then those of what the round holds
@@ -117,4 +118,20 @@ frame-known senders known R ledger f e =
       below = not-false (allBelow (R .q) (f .block)) (w .1 .1 .0);
       same = eqb-true (f .number) (R .number) (not-false (eqb (f .number) (R .number)) (w .1 .1 .1 .0));
       new = w .1 .1 .1 .1 .0;
+    }
+
+-- ---- and of a giving that passed
+
+pub record Giving (senders : ℕ) (known : Bool) (R : Round) (ledger : List Frame) (out : List ℕ) : Type 0 where
+  pub good : Good senders R
+  pub full : allTo senders (λ i. hasReported senders known R ledger (suc i)) ≡ true
+  pub room : length out ≡ R .length
+
+pub give-known : (senders : ℕ) (known : Bool) (R : Round) (ledger : List Frame) (out : List ℕ) → accepted ≡ firstOf (giveChecks senders known R ledger out) → Giving senders known R ledger out
+give-known senders known R ledger out e =
+    let w = none-holds (giveChecks senders known R ledger out) tt e .1 .1 .1 .1 .1 in
+    record {
+      good = good-state senders known R (first-accepts (stateChecks senders known R) (drop 5 (giveChecks senders known R ledger out)) tt e);
+      full = not-false (allTo senders (λ i. hasReported senders known R ledger (suc i))) (w .0);
+      room = eqb-true (length out) (R .length) (not-false (eqb (length out) (R .length)) (w .1 .0));
     }

@@ -69,14 +69,15 @@ module _ (senders : ℕ) (known : Bool) where
   -- what the round has become
   abbrev pub after : Round → List Frame → Round
   after R ledger =
-      record { clusters = R .clusters
-             ; size = R .size
-             ; q = R .q
-             ; length = R .length
-             ; number = R .number
-             ; reported = R .reported + bitsOf ledger
-             ; sums = tab 64 (λ p. cond (ltb p (R .length)) ((at (R .sums) p + countedAt ledger p) % R .q) 0)
-             }
+      record {
+        clusters = R .clusters;
+        size = R .size;
+        q = R .q;
+        length = R .length;
+        number = R .number;
+        reported = R .reported + bitsOf ledger;
+        sums = tab 64 (λ p. cond (ltb p (R .length)) ((at (R .sums) p + countedAt ledger p) % R .q) 0);
+      }
 
   -- "A frame into a round: 8, 4, 3, 14, 11"
   abbrev pub frameChecks : Round → List Frame → Frame → List (Bool × Code)

@@ -100,7 +100,14 @@ impl Round {
         }
     }
 
-    pub(crate) fn open(clusters: usize, size: usize, q: Symbol, length: usize, number: u32, known: bool) -> Step
+    pub(crate) fn open(
+        clusters: usize,
+        size: usize,
+        q: Symbol,
+        length: usize,
+        number: u32,
+        known: bool,
+    ) -> Step
         ensures { λ r. ⌜ (verdictCode (r .answer) ≡ firstOf (openChecks clusters size q length known)) × (r .round ≡ ifAccepted (firstOf (openChecks clusters size q length known)) (opened clusters size q length number) noRound) ⌝ }
     {
         match check_opening(clusters, size, q, length, known) {
@@ -154,7 +161,14 @@ impl Round {
     }
 
     // The frame itself: 8, 4, 3, 14, 11.
-    fn check_own(self, senders: usize, known: bool, sender: usize, number: u32, block: &[Symbol]) -> Verdict
+    fn check_own(
+        self,
+        senders: usize,
+        known: bool,
+        sender: usize,
+        number: u32,
+        block: &[Symbol],
+    ) -> Verdict
         requires { ⌜ senders ≤ 8 ⌝ }
         ensures { λ r. ⌜ verdictCode r ≡ firstOf (ownChecks senders known self (frame sender number (now (block .entry)))) ⌝ }
     {
@@ -176,7 +190,14 @@ impl Round {
         Verdict::Accepted
     }
 
-    fn check_frame(self, senders: usize, known: bool, sender: usize, number: u32, block: &[Symbol]) -> Verdict
+    fn check_frame(
+        self,
+        senders: usize,
+        known: bool,
+        sender: usize,
+        number: u32,
+        block: &[Symbol],
+    ) -> Verdict
         requires { ⌜ (countsFit (self .clusters) (self .size) 0 ≡ true → senders ≤ 8) ⌝ }
         ensures { λ r. ⌜ verdictCode r ≡ stepCode senders known self (frame sender number (now (block .entry))) ⌝ }
     {
@@ -200,7 +221,14 @@ impl Round {
     }
 
     // The sender's bit, and the block's symbols.
-    fn counted(mut self, senders: usize, known: bool, sender: usize, number: u32, block: &[Symbol]) -> Round
+    fn counted(
+        mut self,
+        senders: usize,
+        known: bool,
+        sender: usize,
+        number: u32,
+        block: &[Symbol],
+    ) -> Round
         requires { ⌜ (senders ≤ 8) × (accepted ≡ stepCode senders known self (frame sender number (now block))) ⌝ }
         ensures { λ r. ⌜ r ≡ after senders known self (frame sender number (now (block .entry)) ∷ []) ⌝ }
     {
@@ -210,7 +238,14 @@ impl Round {
     }
 
     // A frame that is refused leaves the round as it was.
-    pub(crate) fn count(self, senders: usize, known: bool, sender: usize, number: u32, block: &[Symbol]) -> Step
+    pub(crate) fn count(
+        self,
+        senders: usize,
+        known: bool,
+        sender: usize,
+        number: u32,
+        block: &[Symbol],
+    ) -> Step
         requires { ⌜ (countsFit (self .clusters) (self .size) 0 ≡ true → senders ≤ 8) ⌝ }
         ensures { λ r. ⌜ (verdictCode (r .answer) ≡ stepCode senders known self (frame sender number (now (block .entry)))) × (r .round ≡ stepped senders known self (frame sender number (now (block .entry)))) ⌝ }
     {

@@ -14,7 +14,14 @@ use refusals::Verdict;
 
 impl RelayRound {
     // A refused opening hands back a round of zeros, its cluster too.
-    pub fn open(clusters: usize, size: usize, q: Symbol, length: usize, cluster: usize, number: u32) -> RelayStep
+    pub fn open(
+        clusters: usize,
+        size: usize,
+        q: Symbol,
+        length: usize,
+        cluster: usize,
+        number: u32,
+    ) -> RelayStep
         ensures { λ r. ⌜ (verdictCode (r .answer) ≡ firstOf (openChecks clusters size q length (oneOf clusters cluster))) × (r .round ≡ ifAccepted (firstOf (openChecks clusters size q length (oneOf clusters cluster))) (relayRound cluster (opened clusters size q length number)) (relayRound 0 noRound)) ⌝ }
     {
         let step = Round::open(clusters, size, q, length, number, one_of(clusters, cluster));
