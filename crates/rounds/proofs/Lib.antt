@@ -1,2 +1,6 @@
-mod StepLaws
 mod CheckLaws
+mod ReportedLaws
+mod StepLaws
+pub mod LedgerLaws
+pub mod RoundLaws
+pub mod Totals

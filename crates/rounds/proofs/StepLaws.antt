@@ -1,28 +1,25 @@
--- What one step of a round comes to: symbols added without a division, a sender's bit, and sums added to position by position.
-use Prim.Native.Nat.{ℕ, zero, suc, _+_, _-_, _*_, _/_, _%_, _^_, _≤_, _<_, suc-le-suc}
+-- What one step of a round comes to: symbols added without a division, and sums added to position by position.
+use Prim.Native.Nat.{ℕ, zero, suc, _+_, _-_, _*_, _%_, _^_, _≤_, _<_}
 use mathlib.Core.Path.{_≡_, refl, sym, ap, ap₂, _∙_, subst}
-use mathlib.Core.Bool.{Bool, true, false, cond, not, _&&_, _||_}
-use mathlib.Core.Logic.{_≢_, ⊎-elim}
+use mathlib.Core.Bool.{Bool, true, false, cond, _&&_, _||_}
+use mathlib.Core.Logic.{_≢_}
 use mathlib.Core.List.{List, [], _∷_, _++_}
-use native.Mathlib.Nat.{mod-eq-of-lt, add-mod-left, add-zero, not-suc-le-zero, le-of-suc-le-suc, lt-suc-self, one-mul, div-eq-of-lt, div-add-mod', mod-lt}
+use native.Mathlib.Nat.{mod-eq-of-lt, add-mod-left, add-zero, lt-suc-self}
 use native.Mathlib.Numerals.{add-one}
 use native.Mathlib.Decide.{ℕ-discrete, decLt}
 use native.Mathlib.Omega.{arith}
-use lib.Dec.{ltb, eqb}
-use lib.ListN.{length, take, drop, set, length-set, List·getD-eq-default}
-use lib.Seq.{getD-take, getD-drop, getD-set-same, getD-set-other, take-suc, take-suc-set}
-use lib.Pow.{pow-pos, high-ones}
-use lib.Bits.{bitAnd, bitOr, and-high, or-add-and}
-use borrow.Author.Tests.{eq-eqb, ne-eqb, lt-ltb, le-ltb}
+use lib.Dec.{ltb}
+use lib.ListN.{length, take, drop, set, length-set}
+use lib.Seq.{getD-drop, getD-set-same, getD-set-other, take-suc, take-suc-set}
+use lib.Bits.{bitOr}
+use borrow.Author.Tests.{lt-ltb, le-ltb}
 use Rattle.arithmetic.specs.Search.{allTo}
 use Rattle.arithmetic.specs.Primes.{allBelow}
-use Rattle.arithmetic.specs.Field.{residue, sumOf}
+use Rattle.arithmetic.specs.Field.{sumOf}
 use Rattle.arithmetic.proofs.Congruence.{residue-mod}
 use Rattle.matrices.specs.Linear.{at}
 use Rattle.secrecy.specs.Lists.{tab}
-use Rattle.secrecy.specs.Model.{inCoalition}
 use Rattle.secrecy.proofs.ListLaws.{at-tab, length-tab, tab-at, tab-cong}
-use Rattle.vetting.proofs.BitLaws.{digit, one-shl, all-ones}
 use Rattle.arithmetic.proofs.Searches.{true→T}
 use Rattle.arithmetic.proofs.PrimeLaws.{below-at}
 use Rattle.rounds.specs.declared.Round.{Round}
@@ -30,6 +27,7 @@ use Rattle.rounds.specs.Ledger.{Frame, named, bitsOf, countedAt}
 use Rattle.rounds.specs.Rounds.{hasBit, hasReported, after}
 use Rattle.rounds.specs.Machine.{withSums, addedTo}
 use Rattle.rounds.proofs.CheckLaws.{Good, Passed}
+use Rattle.rounds.proofs.ReportedLaws.{set-bit}
 
 -- ---- a sum of two symbols, by one subtraction at most
 
@@ -42,51 +40,6 @@ sum-over q a b h k l =
 pub sum-under : (q a b : ℕ) → a + b < q → a + b ≡ sumOf q a b
 sum-under q a b l = sym (residue-mod q (a + b) (omega arith) ∙ mod-eq-of-lt l)
 
--- ---- a bit that is not set is set by adding its power
-
-pub set-bit : (g i : ℕ) → i < 16 → hasBit g i ≡ false → bitOr g (1 * 2 ^ i % 2 ^ 16) ≡ g + 2 ^ i
-unfolding hasBit
-set-bit g i h e = ap (bitOr g) (one-shl 16 i h) ∙ ⊎-elim (λ z. off z) (λ z. on z) (digit (g / 2 ^ i))
-  where
-    meet : bitAnd g (1 * 2 ^ i) ≡ g / 2 ^ i % 2 * 2 ^ i
-    meet = ap (bitAnd g) (sym (high-ones 1 i)) ∙ and-high g 1 i
-
-    sum : bitOr g (1 * 2 ^ i) + g / 2 ^ i % 2 * 2 ^ i ≡ g + 1 * 2 ^ i
-    sum = subst (λ (z : ℕ). bitOr g (1 * 2 ^ i) + z ≡ g + 1 * 2 ^ i) meet (or-add-and g (1 * 2 ^ i))
-
-    off : g / 2 ^ i % 2 ≡ 0 → bitOr g (1 * 2 ^ i) ≡ g + 2 ^ i
-    off z =
-        let s : bitOr g (1 * 2 ^ i) + 0 * 2 ^ i ≡ g + 1 * 2 ^ i = subst (λ (d : ℕ). bitOr g (1 * 2 ^ i) + d * 2 ^ i ≡ g + 1 * 2 ^ i) z sum in
-        omega arith
-
-    on : g / 2 ^ i % 2 ≡ 1 → bitOr g (1 * 2 ^ i) ≡ g + 2 ^ i
-    on z = absurd (true-not-false (sym (eq-eqb (g / 2 ^ i % 2) 1 z) ∙ e))
-      where
-        true-not-false : true ≡ false → ⊥
-        true-not-false f = let z : _≡_ {A = ℕ} 1 0 = ap (λ (t : Bool). cond t 1 0) f in omega arith
-
--- ---- bits at or above a place
-
-pub bits-above : (n k : ℕ) → n / 2 ^ k ≢ 0 → ltb n (2 ^ k) ≡ false
-bits-above n k ne = go (decLt n (2 ^ k))
-  where
-    go : Dec (n < 2 ^ k) → ltb n (2 ^ k) ≡ false
-    go (yes h) = absurd (ne (div-eq-of-lt h))
-    go (no h) = le-ltb n (2 ^ k) (omega arith)
-
-pub bits-below : (n k : ℕ) → n / 2 ^ k ≡ 0 → ltb n (2 ^ k) ≡ true
-bits-below n k e =
-    lt-ltb n (2 ^ k) (omega (arith, div-add-mod' n (2 ^ k), ap (λ (z : ℕ). z * 2 ^ k) e, mod-lt n (pow-pos k)))
-
--- the machine's `(1 << s) - 1`
-pub mask-some : (s : ℕ) → s ≤ 8 → 1 ≤ 1 * 2 ^ s % 2 ^ 16
-mask-some s h = omega (arith, one-shl 16 s (omega arith), pow-pos s)
-
-pub full-mask : (n s : ℕ) → s ≤ 8 → n < 2 ^ s → eqb n (1 * 2 ^ s % 2 ^ 16 - 1) ≡ allTo s (hasBit n)
-unfolding hasBit inCoalition
-full-mask n s h l =
-    ap₂ (λ (x y : ℕ). eqb x (y - 1)) (sym (mod-eq-of-lt l)) (one-shl 16 s (omega arith) ∙ one-mul (2 ^ s)) ∙ all-ones n s
-
 -- ---- everyone has reported, where the round has no ledger
 
 pub all-cong : (n : ℕ) (f g : ℕ → Bool) → ((k : ℕ) → k < n → f k ≡ g k) → allTo n f ≡ allTo n g
@@ -94,7 +47,7 @@ unfolding allTo
 all-cong zero f g h = refl
 all-cong (suc n) f g h = ap₂ _&&_ (all-cong n f g (λ k l. h k (omega arith))) (h n (lt-suc-self n))
 
-or-none : (b : Bool) → (b || false) ≡ b
+pub or-none : (b : Bool) → (b || false) ≡ b
 or-none true = refl
 or-none false = refl
 

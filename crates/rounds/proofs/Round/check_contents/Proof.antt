@@ -9,7 +9,7 @@ use lib.ListN.{take, drop, length-drop}
 use lib.Seq.{take-all, length-take-le}
 use Rattle.arithmetic.specs.Primes.{allBelow}
 use Rattle.rounds.specs.Rounds.{sumsFit}
-use Rattle.rounds.proofs.StepLaws.{bits-above, bits-below}
+use Rattle.rounds.proofs.ReportedLaws.{bits-above, bits-below}
 use mathlib.Core.Path.{_≡_}
 use lib.ListN.{length}
 use Prim.Native.Nat.{ℕ}

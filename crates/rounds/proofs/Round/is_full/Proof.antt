@@ -1,4 +1,4 @@
-use Rattle.rounds.proofs.StepLaws.{mask-some, full-mask}
+use Rattle.rounds.proofs.ReportedLaws.{mask-some, full-mask}
 use borrow.Author.Needs.{needs}
 use Rattle.rounds.proofs.Round.is_full.Statement.{statement}
 use Rattle.rounds.proofs.Round.is_full.Tie as tie
