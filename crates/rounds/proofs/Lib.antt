@@ -1,2 +1,8 @@
 pub mod BlockLaws
 pub mod StreamLaws
+mod CheckLaws
+mod ReportedLaws
+mod StepLaws
+pub mod LedgerLaws
+pub mod RoundLaws
+pub mod Totals

@@ -1,2 +1,5 @@
 pub mod Blocks
+pub mod Ledger
+pub mod Machine
+pub mod Rounds
 pub mod Streams

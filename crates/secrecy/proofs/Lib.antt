@@ -13,5 +13,5 @@ pub mod Server
 pub mod Verdicts
 mod Independence
 mod Coalitions
-mod Clusters
+pub mod Clusters
 mod LeakTest

@@ -80,7 +80,7 @@ module _ (P : Pool) where
   unfolding reading
   reading-below L W v i p h l = v .small (i * L + p) (digits-lt h l)
 
-  dot-key : (N : List ℕ) (i p : ℕ) → dot (P .q) (row P i) (sourceAt (P .rate) N p) ≡ key P N i p
+  pub dot-key : (N : List ℕ) (i p : ℕ) → dot (P .q) (row P i) (sourceAt (P .rate) N p) ≡ key P N i p
   unfolding key
   dot-key N i p =
       ap (λ (z : ℕ). z % P .q) (dot-tab (P .rate) (λ k. at (P .table) (i * P .rate + k)) (λ k. at N (p * P .rate + k)))

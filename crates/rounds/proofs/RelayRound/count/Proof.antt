@@ -1,0 +1,33 @@
+use mathlib.Core.Path.{_≡_, sym, ap, _∙_}
+use mathlib.Core.Bool.{Bool}
+use Rattle.vetting.proofs.PlanBounds.{counts-known}
+use Rattle.rounds.specs.Ledger.{frame}
+use Rattle.rounds.specs.Rounds.{stepCode, stepped, relayRound}
+use borrow.Author.Needs.{needs}
+use Rattle.rounds.proofs.RelayRound.count.Statement.{statement}
+use Rattle.rounds.proofs.RelayRound.count.Tie as tie
+use Rattle.rounds.proofs.RelayRound.count.Reads as reads
+use Rattle.rounds.proofs.RelayRound.count.Lts as lts
+use Rattle.rounds.proofs.RelayRound.is_known.Reads as is-known-reads
+use Rattle.rounds.proofs.Round.count.Reads as count-reads
+
+is-known-requires : tie.Need-is-known-requires
+is-known-requires c κs = search needs
+
+count-requires : tie.Need-count-requires
+count-requires c κs =
+    let R = c .before .before .before .args .self .round in
+    λ fit. counts-known (R .clusters) (R .size) 0 fit .few-size
+
+returns : tie.Need-returns
+returns c =
+    let a = c .before .before .before .before .before .args in
+    let R = a .self .round in
+    let f = frame (a .sender) (a .number) (a .block .now) in
+    let known = c .before .before .is-known .ensures in (
+      c .before .count .ensures .0 ∙ ap (λ (t : Bool). stepCode (R .size) t R f) known,
+      ap (relayRound (a .self .cluster)) (c .before .count .ensures .1 ∙ ap (λ (t : Bool). stepped (R .size) t R f) known),
+    )
+
+pub count-spec : {M : Type 1} → statement M
+count-spec = tie.close (tie.spec is-known-requires count-requires returns)

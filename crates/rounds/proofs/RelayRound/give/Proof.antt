@@ -1,0 +1,41 @@
+use mathlib.Core.Path.{_≡_, refl, sym, ap, _∙_}
+use mathlib.Core.Bool.{Bool}
+use mathlib.Core.List.{List, []}
+use Prim.Native.Nat.{ℕ}
+use lib.ListN.{take}
+use Rattle.refusals.specs.Codes.{firstOf, ifAccepted}
+use Rattle.vetting.proofs.PlanBounds.{counts-known}
+use Rattle.rounds.specs.Rounds.{giveChecks}
+use borrow.Author.Needs.{needs}
+use Rattle.rounds.proofs.RelayRound.give.Statement.{statement}
+use Rattle.rounds.proofs.RelayRound.give.Tie as tie
+use Rattle.rounds.proofs.RelayRound.give.Reads as reads
+use Rattle.rounds.proofs.RelayRound.give.Lts as lts
+use Rattle.rounds.proofs.RelayRound.is_known.Reads as is-known-reads
+use Rattle.rounds.proofs.Round.give.Reads as give-reads
+
+is-known-requires : tie.Need-is-known-requires
+is-known-requires c κs = search needs
+
+give-requires : tie.Need-give-requires
+give-requires c κs =
+    let R = c .before .before .before .before .args .self .round in
+    λ fit. counts-known (R .clusters) (R .size) 0 fit .few-size
+
+same-length : tie.Need-same-length
+same-length c = search needs
+
+returns : tie.Need-returns
+returns c =
+    let a = c .before .before .before .before .before .before .before .args in
+    let R = a .self .round in
+    let out : List ℕ = a .out .now in
+    let known = c .before .before .before .before .is-known .ensures in
+    let e = c .before .before .give .ensures in (
+      e .0 ∙ ap (λ (t : Bool). firstOf (giveChecks (R .size) t R [] out)) known,
+      e .1 ∙ ap (λ (t : Bool). ifAccepted (firstOf (giveChecks (R .size) t R [] out)) (take (R .length) (R .sums)) out) known,
+      refl,
+    )
+
+pub give-spec : {M : Type 1} → statement M
+give-spec = tie.close (tie.spec is-known-requires give-requires same-length returns)

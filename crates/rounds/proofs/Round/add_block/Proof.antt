@@ -1,0 +1,120 @@
+use mathlib.Core.Path.{subst}
+use mathlib.Core.Bool.{true}
+use lib.ListN.{take}
+use lib.Seq.{getD-take}
+use Rattle.arithmetic.specs.Primes.{allBelow}
+use Rattle.arithmetic.proofs.Searches.{true→T}
+use Rattle.arithmetic.proofs.PrimeLaws.{below-at}
+use Rattle.rounds.proofs.StepLaws.{added-none, added-at, added-next}
+use borrow.Author.Needs.{needs}
+use mathlib.Core.Path.{_≡_, refl, sym, ap, ap₂, _∙_}
+use mathlib.Core.List.{List}
+use Prim.Native.Nat.{ℕ, _+_, _-_, _≤_, _<_}
+use native.Mathlib.Omega.{arith}
+use lib.ListN.{length, set}
+use Rattle.arithmetic.specs.Field.{sumOf}
+use Rattle.matrices.specs.Linear.{at}
+use Rattle.rounds.specs.declared.Round.{Round}
+use Rattle.rounds.specs.Machine.{withSums, addedTo}
+use Rattle.rounds.proofs.Round.add_block.Statement.{statement}
+use Rattle.rounds.proofs.Round.add_block.Tie as tie
+use Rattle.rounds.proofs.Round.add_block.Reads as reads
+use Rattle.rounds.proofs.Round.add_block.Lts as lts
+use Rattle.rounds.proofs.machine.add_reduced.Reads as add-reduced-reads
+
+abbrev Inv-loop : tie.InvT-loop
+Inv-loop block self₀ p₀ self p = (p ≤ length block) × (length (self₀ .sums) ≡ 64) × (self ≡ withSums self₀ (addedTo (self₀ .q) p (self₀ .sums) block))
+
+abbrev μ-loop : tie.MeasureT-loop
+μ-loop block self₀ p₀ self p = length block - p
+
+loop-holds : tie.Need-loop-holds Inv-loop μ-loop
+loop-holds c =
+    let r : Round = c .before .args .t1 in
+    let l : length (r .sums) ≡ 64 = search needs in
+    (omega arith, l, ap (withSums r) (added-none (r .q) (r .sums) (c .before .args .block .now) l))
+
+mul-add-reduced : tie.Need-mul-add-reduced Inv-loop μ-loop
+mul-add-reduced c = search needs
+
+element-copy-out-add-reduced : tie.Need-element-copy-out-add-reduced Inv-loop μ-loop
+element-copy-out-add-reduced c = search needs
+
+mul-add-reduced-2 : tie.Need-mul-add-reduced-2 Inv-loop μ-loop
+mul-add-reduced-2 c = search needs
+
+shared-slice-read-add-reduced : tie.Need-shared-slice-read-add-reduced Inv-loop μ-loop
+shared-slice-read-add-reduced c = search needs
+
+add-reduced-requires : tie.Need-add-reduced-requires Inv-loop μ-loop
+add-reduced-requires c κs =
+    let s = c .before .before .before .loop in
+    let a = c .before .before .before .before .before in
+    let r : Round = a .args .t1 in
+    let bl : List ℕ = a .args .block .now in
+    let h : s .p < length bl = c .before .before .loop-test .taken in
+    let few : length bl ≤ 64 = a .pre .0 in
+    let e : s .self ≡ withSums r (addedTo (r .q) (s .p) (r .sums) bl) = s .inv .2 in
+    let m : at (s .self .sums) (s .p) ≡ at (take (length bl) (r .sums)) (s .p) =
+    ap (λ (w : Round). at (w .sums) (s .p)) e ∙ added-at (r .q) (r .sums) bl (s .p) (omega arith) ∙ sym (getD-take (length bl) (r .sums) (s .p) 0 h) in
+    let k : s .self .q ≡ r .q = ap (λ (w : Round). w .q) e in (
+      omega (arith, m, k, below-at (r .q) (take (length bl) (r .sums)) (a .pre .1) (true→T _ (a .pre .2)) (s .p)),
+      omega (arith, k, below-at (r .q) bl (a .pre .1) (true→T _ (a .pre .3)) (s .p)),
+    )
+
+mul-self : tie.Need-mul-self Inv-loop μ-loop
+mul-self c = search needs
+
+element-write-self : tie.Need-element-write-self Inv-loop μ-loop
+element-write-self c = search needs
+
+add-p : tie.Need-add-p Inv-loop μ-loop
+add-p c = search needs
+
+loop-less : tie.Need-loop-less Inv-loop μ-loop
+loop-less c = search needs
+
+loop-again : tie.Need-loop-again Inv-loop μ-loop
+loop-again c =
+    let s = c .before .before .before .before .loop in
+    let a = c .before .before .before .before .before .before in
+    let r : Round = a .args .t1 in
+    let bl : List ℕ = a .args .block .now in
+    let S : List ℕ = addedTo (r .q) (s .p) (r .sums) bl in
+    let h : s .p < length bl = c .before .before .before .loop-test .taken in
+    let few : length bl ≤ 64 = a .pre .0 in
+    let e : s .self ≡ withSums r S = s .inv .2 in
+    let x : c .add-reduced .result ≡ sumOf (r .q) (at S (s .p)) (at bl (s .p)) =
+    c .add-reduced .ensures ∙ ap (λ (w : Round). sumOf (w .q) (at (w .sums) (s .p)) (at bl (s .p))) e in (
+      omega arith,
+      s .inv .1,
+      ap₂ (λ (w : Round) (y : ℕ). withSums w (set (w .sums) (s .p) y)) e x ∙ ap (withSums r) (added-next (r .q) (r .sums) bl (s .p) (omega arith) (a .pre .1)),
+    )
+
+returns : tie.Need-returns Inv-loop μ-loop
+returns c =
+    let s = c .before .loop in
+    let a = c .before .before .before in
+    let r : Round = a .args .t1 in
+    let bl : List ℕ = a .args .block .now in
+    let k : s .p ≡ length bl = omega (arith, s .inv .0, c .loop-test .left) in
+    s .inv .2 ∙ ap (λ (n : ℕ). withSums r (addedTo (r .q) n (r .sums) bl)) k
+
+pub add-block-spec : {M : Type 1} → statement M
+add-block-spec =
+    tie.close
+    (tie.spec
+    Inv-loop
+    μ-loop
+    loop-holds
+    mul-add-reduced
+    element-copy-out-add-reduced
+    mul-add-reduced-2
+    shared-slice-read-add-reduced
+    add-reduced-requires
+    mul-self
+    element-write-self
+    add-p
+    loop-less
+    loop-again
+    returns)

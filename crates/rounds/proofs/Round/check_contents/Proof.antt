@@ -1,0 +1,100 @@
+use borrow.Author.Tests.{not-true, not-false}
+use mathlib.Core.Path.{sym, ap, _∙_}
+use mathlib.Core.Bool.{Bool, true, false, _&&_, and-false}
+use mathlib.Core.List.{List}
+use Prim.Native.Nat.{_-_, _^_}
+use native.Mathlib.Omega.{arith}
+use lib.Dec.{ltb}
+use lib.ListN.{take, drop, length-drop}
+use lib.Seq.{take-all, length-take-le}
+use Rattle.arithmetic.specs.Primes.{allBelow}
+use Rattle.rounds.specs.Rounds.{sumsFit}
+use Rattle.rounds.proofs.ReportedLaws.{bits-above, bits-below}
+use mathlib.Core.Path.{_≡_}
+use lib.ListN.{length}
+use Prim.Native.Nat.{ℕ}
+use borrow.Author.Needs.{needs}
+use Rattle.rounds.proofs.Round.check_contents.Statement.{statement}
+use Rattle.rounds.proofs.Round.check_contents.Tie as tie
+use Rattle.rounds.proofs.Round.check_contents.Reads as reads
+use Rattle.rounds.proofs.Round.check_contents.Lts as lts
+use Rattle.arithmetic.proofs.all_below.Reads as all-below-reads
+
+cast-if1 : tie.Need-cast-if1
+cast-if1 c = search needs
+
+cast-if1-2 : tie.Need-cast-if1-2
+cast-if1-2 c = search needs
+
+shr-if1 : tie.Need-shr-if1
+shr-if1 c = search needs
+
+sixty-four : (c : tie.Start) → length (c .args .self .sums) ≡ 64
+sixty-four c = search needs
+
+returns : tie.Need-returns
+returns c = simp (bits-above _ _ (c .if1 .taken))
+
+array-share-prefix-sums : tie.Need-array-share-prefix-sums
+array-share-prefix-sums c = omega (arith, sixty-four (c .before .before .before), c .before .before .before .pre .1)
+
+slice-aggregate-all-below : tie.Need-slice-aggregate-all-below
+slice-aggregate-all-below c =
+    let a = c .before .before .before .before .args in
+    sym (length-take-le (a .self .length) (a .self .sums) (omega (arith, sixty-four (c .before .before .before .before), c .before .before .before .before .pre .1)))
+
+all-below-requires : tie.Need-all-below-requires
+all-below-requires c κs = search needs
+
+-- the sums past the length, as the part of the array that the code tests
+past : (c : tie.Start) → take (64 - c .args .self .length) (drop (c .args .self .length) (c .args .self .sums)) ≡ drop (c .args .self .length) (c .args .self .sums)
+past c =
+    let R = c .args .self in
+    take-all (64 - R .length) (drop (R .length) (R .sums)) (omega (arith, length-drop (R .length) (R .sums), sixty-four c))
+
+returns-2 : tie.Need-returns-2
+returns-2 c = simp (bits-below _ _ (c .before .before .before .before .if1 .left), sym (c .before .all-below .ensures) ∙ not-true _ (c .if2 .taken))
+
+mul-all-below : tie.Need-mul-all-below
+mul-all-below c = search needs
+
+sub-all-below : tie.Need-sub-all-below
+sub-all-below c = search needs
+
+part-all-below-start : tie.Need-part-all-below-start
+part-all-below-start c = search needs
+
+part-all-below-end : tie.Need-part-all-below-end
+part-all-below-end c = let l : length (c .before .before .before .before .before .before .before .args .self .sums) ≡ 64 = sixty-four (c .before .before .before .before .before .before .before) in omega arith
+
+all-below-requires-2 : tie.Need-all-below-requires-2
+all-below-requires-2 c κs = search needs
+
+below-is : (c : tie.After-all-below2) → (let R = c .before .before .before .before .before .before .before .before .before .args .self in allBelow 1 (drop (R .length) (R .sums)) ≡ c .all-below2 .result)
+below-is c = sym (c .all-below2 .ensures ∙ ap (allBelow 1) (past (c .before .before .before .before .before .before .before .before .before)))
+
+returns-3 : tie.Need-returns-3
+returns-3 c = simp (bits-below _ _ (c .before .before .before .before .before .before .before .before .if1 .left), sym (c .before .before .before .before .before .all-below .ensures) ∙ not-false _ (c .before .before .before .before .if2 .left), below-is (c .before) ∙ not-true _ (c .if3 .taken))
+
+returns-4 : tie.Need-returns-4
+returns-4 c = simp (bits-below _ _ (c .before .before .before .before .before .before .before .before .if1 .left), sym (c .before .before .before .before .before .all-below .ensures) ∙ not-false _ (c .before .before .before .before .if2 .left), below-is (c .before) ∙ not-false _ (c .if3 .left))
+
+pub check-contents-spec : {M : Type 1} → statement M
+check-contents-spec =
+    tie.close
+    (tie.spec
+    cast-if1
+    cast-if1-2
+    shr-if1
+    returns
+    array-share-prefix-sums
+    slice-aggregate-all-below
+    all-below-requires
+    returns-2
+    mul-all-below
+    sub-all-below
+    part-all-below-start
+    part-all-below-end
+    all-below-requires-2
+    returns-3
+    returns-4)

@@ -1,0 +1,26 @@
+use Rattle.rounds.proofs.ReportedLaws.{mask-some, full-mask}
+use borrow.Author.Needs.{needs}
+use Rattle.rounds.proofs.Round.is_full.Statement.{statement}
+use Rattle.rounds.proofs.Round.is_full.Tie as tie
+use Rattle.rounds.proofs.Round.is_full.Reads as reads
+use Rattle.rounds.proofs.Round.is_full.Lts as lts
+
+cast-result : tie.Need-cast-result
+cast-result c = search needs
+
+cast-result-2 : tie.Need-cast-result-2
+cast-result-2 c = search needs
+
+shl-result : tie.Need-shl-result
+shl-result c = search needs
+
+sub-result : tie.Need-sub-result
+sub-result c = mask-some (c .args .senders) (c .pre .0)
+
+returns : tie.Need-returns
+returns c =
+    let s = c .before in
+    full-mask (s .args .self .reported) (s .args .senders) (s .pre .0) (s .pre .1)
+
+pub is-full-spec : {M : Type 1} → statement M
+is-full-spec = tie.close (tie.spec cast-result cast-result-2 shl-result sub-result returns)

@@ -1,0 +1,78 @@
+use lib.ListN.{set}
+use Rattle.matrices.specs.Linear.{at}
+use borrow.Author.Needs.{needs}
+use mathlib.Core.Path.{_≡_, refl, sym, ap, _∙_}
+use mathlib.Core.List.{List}
+use Prim.Native.Nat.{ℕ, _+_, _-_, _≤_, _<_}
+use native.Mathlib.Omega.{arith}
+use lib.ListN.{length, take, length-set}
+use lib.Seq.{take-all}
+use Rattle.rounds.proofs.StepLaws.{copy-next}
+use Rattle.rounds.proofs.Round.write_sums.Statement.{statement}
+use Rattle.rounds.proofs.Round.write_sums.Tie as tie
+use Rattle.rounds.proofs.Round.write_sums.Reads as reads
+use Rattle.rounds.proofs.Round.write_sums.Lts as lts
+
+abbrev Inv-loop : tie.InvT-loop
+Inv-loop out₀ self p₀ out p = (p ≤ length out) × (length out ≡ length out₀) × (length (self .sums) ≡ 64) × (take p out ≡ take p (self .sums))
+
+abbrev μ-loop : tie.MeasureT-loop
+μ-loop out₀ self p₀ out p = length out₀ - p
+
+loop-holds : tie.Need-loop-holds Inv-loop μ-loop
+loop-holds c = (omega arith, refl, search needs, refl)
+
+mul-out : tie.Need-mul-out Inv-loop μ-loop
+mul-out c = search needs
+
+element-copy-out-out : tie.Need-element-copy-out-out Inv-loop μ-loop
+element-copy-out-out c = search needs
+
+mul-out-2 : tie.Need-mul-out-2 Inv-loop μ-loop
+mul-out-2 c = search needs
+
+slice-write-out : tie.Need-slice-write-out Inv-loop μ-loop
+slice-write-out c = search needs
+
+add-p : tie.Need-add-p Inv-loop μ-loop
+add-p c = search needs
+
+loop-less : tie.Need-loop-less Inv-loop μ-loop
+loop-less c =
+    let s = c .before .before .loop in
+    omega (arith, s .inv .1, c .before .loop-test .taken)
+
+loop-again : tie.Need-loop-again Inv-loop μ-loop
+loop-again c =
+    let s = c .before .before .loop in
+    let S : List ℕ = c .before .before .before .args .t1 .sums in
+    let h : s .p < length (s .out) = c .before .loop-test .taken in
+    let few : length (c .before .before .before .args .out .now) ≤ 64 = c .before .before .before .pre in
+    let l : length (set (s .out) (s .p) (at S (s .p))) ≡ length (s .out) = length-set (s .out) (s .p) (at S (s .p)) in
+    (omega arith, l ∙ s .inv .1, s .inv .2, copy-next (s .out) S (s .p) h (omega (arith, s .inv .1, s .inv .2)) (s .inv .3))
+
+same-length : tie.Need-same-length Inv-loop μ-loop
+same-length c = c .before .loop .inv .1
+
+returns : tie.Need-returns Inv-loop μ-loop
+returns c =
+    let s = c .before .loop in
+    let k : s .p ≡ length (c .before .before .args .out .now) = omega (arith, s .inv .0, s .inv .1, c .loop-test .left) in
+    sym (take-all (s .p) (s .out) (omega (arith, c .loop-test .left))) ∙ s .inv .3 ∙ ap (λ (n : ℕ). take n (c .before .before .args .t1 .sums)) k
+
+pub write-sums-spec : {M : Type 1} → statement M
+write-sums-spec =
+    tie.close
+    (tie.spec
+    Inv-loop
+    μ-loop
+    loop-holds
+    mul-out
+    element-copy-out-out
+    mul-out-2
+    slice-write-out
+    add-p
+    loop-less
+    loop-again
+    same-length
+    returns)

@@ -1,0 +1,24 @@
+use mathlib.Core.Path.{refl}
+use Rattle.vetting.proofs.PlanBounds.{counts-known}
+use borrow.Author.Needs.{needs}
+use Rattle.rounds.proofs.ServerRound.give.Statement.{statement}
+use Rattle.rounds.proofs.ServerRound.give.Tie as tie
+use Rattle.rounds.proofs.ServerRound.give.Reads as reads
+use Rattle.rounds.proofs.ServerRound.give.Lts as lts
+use Rattle.rounds.proofs.Round.give.Reads as give-reads
+
+give-requires : tie.Need-give-requires
+give-requires c κs =
+    let R = c .before .before .before .args .self .round in
+    λ fit. counts-known (R .clusters) (R .size) 0 fit .few-clusters
+
+same-length : tie.Need-same-length
+same-length c = search needs
+
+returns : tie.Need-returns
+returns c =
+    let e = c .before .before .give .ensures in
+    (e .0, e .1, refl)
+
+pub give-spec : {M : Type 1} → statement M
+give-spec = tie.close (tie.spec give-requires same-length returns)

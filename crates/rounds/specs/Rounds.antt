@@ -1,0 +1,142 @@
+-- Rounds: what a step answers and what it hands back, for every state that can be handed in, good or bad. A round is what it was when it was handed
+-- in, and the ledger of the frames counted since; an opened round had nobody on its roll and sums of 0, so that it is its ledger alone.
+-- A relay (document 01: gateway) hears the users of its cluster, the server (desk) the relays; all else is said once, for both.
+use Prim.Native.Nat.{ℕ, zero, suc, _+_, _-_, _/_, _%_, _^_}
+use mathlib.Core.Bool.{Bool, true, cond, not, _&&_, _||_}
+use mathlib.Core.List.{List, [], _∷_, _++_}
+use lib.Dec.{leb, ltb, eqb}
+use lib.ListN.{length, take, drop, replicate}
+use Rattle.refusals.specs.declared.Code.{Code}
+use Rattle.refusals.specs.Codes.{code, firstOf, ifAccepted}
+use Rattle.arithmetic.specs.Search.{allTo}
+use Rattle.arithmetic.specs.Primes.{isPrime, allBelow}
+use Rattle.matrices.specs.Linear.{at, zeros}
+use Rattle.secrecy.specs.Lists.{tab}
+use Rattle.vetting.specs.Plans.{countsFit}
+use Rattle.rounds.specs.declared.Round.{Round}
+use Rattle.rounds.specs.declared.RelayRound.{RelayRound}
+use Rattle.rounds.specs.declared.ServerRound.{ServerRound}
+use Rattle.rounds.specs.Blocks.{lengthFits}
+use Rattle.rounds.specs.Ledger.{Frame, named, bitsOf, countedAt}
+
+-- is bit i of n set?
+unfoldable pub hasBit : ℕ → ℕ → Bool
+hasBit n i = eqb (n / 2 ^ i % 2) 1
+
+-- is this number one of 1 to n?
+abbrev pub oneOf : ℕ → ℕ → Bool
+oneOf n x = leb 1 x && leb x n
+
+-- ---- opening: "1, 2, 9, 8"; `known`: its own number is one of the plan's
+
+abbrev pub openChecks : ℕ → ℕ → ℕ → ℕ → Bool → List (Bool × Code)
+openChecks clusters size q L known =
+    (not (countsFit clusters size 0), code 1)
+    ∷ (not (isPrime q), code 2)
+    ∷ (not (lengthFits L), code 9)
+    ∷ (not known, code 8)
+    ∷ []
+
+abbrev pub opened : ℕ → ℕ → ℕ → ℕ → ℕ → Round
+opened clusters size q L number =
+    record { clusters = clusters; size = size; q = q; length = L; number = number; reported = 0; sums = zeros 64 }
+
+-- what a refused opening hands back
+abbrev pub noRound : Round
+noRound = opened 0 0 0 0 0
+
+-- ---- a state that is handed in: "in the order 1, 2, 9, 8, 3; a roll bit that is no sender's is 8, a sum past position L other than 0 is 3"
+
+abbrev pub sumsFit : ℕ → ℕ → List ℕ → Bool
+sumsFit q L sums = allBelow q (take L sums) && allBelow 1 (drop L sums)
+
+module _ (senders : ℕ) (known : Bool) where
+  abbrev pub stateChecks : Round → List (Bool × Code)
+  stateChecks R =
+      (not (countsFit (R .clusters) (R .size) 0), code 1)
+      ∷ (not (isPrime (R .q)), code 2)
+      ∷ (not (lengthFits (R .length)), code 9)
+      ∷ (not (known && ltb (R .reported) (2 ^ senders)), code 8)
+      ∷ (not (sumsFit (R .q) (R .length) (R .sums)), code 3)
+      ∷ []
+
+  -- ---- a round R and its ledger
+
+  -- has this sender reported?
+  abbrev pub hasReported : Round → List Frame → ℕ → Bool
+  hasReported R ledger sender = hasBit (R .reported) (sender - 1) || named ledger sender
+
+  -- what the round has become
+  abbrev pub after : Round → List Frame → Round
+  after R ledger =
+      record {
+        clusters = R .clusters;
+        size = R .size;
+        q = R .q;
+        length = R .length;
+        number = R .number;
+        reported = R .reported + bitsOf ledger;
+        sums = tab 64 (λ p. cond (ltb p (R .length)) ((at (R .sums) p + countedAt ledger p) % R .q) 0);
+      }
+
+  -- "A frame into a round: 8, 4, 3, 14, 11"
+  abbrev pub frameChecks : Round → List Frame → Frame → List (Bool × Code)
+  frameChecks R ledger f =
+      stateChecks R
+      ++ (not (oneOf senders (f .sender)), code 8)
+      ∷ (not (eqb (length (f .block)) (R .length)), code 4)
+      ∷ (not (allBelow (R .q) (f .block)), code 3)
+      ∷ (not (eqb (f .number) (R .number)), code 14)
+      ∷ (hasReported R ledger (f .sender), code 11)
+      ∷ []
+
+  -- "Giving sums: 12, 4"
+  abbrev pub giveChecks : Round → List Frame → List ℕ → List (Bool × Code)
+  giveChecks R ledger out =
+      stateChecks R
+      ++ (not (allTo senders (λ i. hasReported R ledger (suc i))), code 12)
+      ∷ (not (eqb (length out) (R .length)), code 4)
+      ∷ []
+
+  -- ---- one step from a state that is handed in
+
+  abbrev pub stepCode : Round → Frame → Code
+  stepCode R f = firstOf (frameChecks R [] f)
+
+  abbrev pub stepped : Round → Frame → Round
+  stepped R f = ifAccepted (stepCode R f) (after R (f ∷ [])) R
+
+  -- the answers to a list of frames, and the round after them, step by step
+  unfoldable pub answersOf : Round → List Frame → List Code
+  answersOf R [] = []
+  answersOf R (f ∷ frames) = stepCode R f ∷ answersOf (stepped R f) frames
+
+  unfoldable pub runOf : Round → List Frame → Round
+  runOf R [] = R
+  runOf R (f ∷ frames) = runOf (stepped R f) frames
+
+  -- ---- the same by the ledger
+
+  abbrev pub noted : Round → List Frame → Frame → List Frame
+  noted R ledger f = ifAccepted (firstOf (frameChecks R ledger f)) (ledger ++ (f ∷ [])) ledger
+
+  unfoldable pub ledgerAnswers : Round → List Frame → List Frame → List Code
+  ledgerAnswers R ledger [] = []
+  ledgerAnswers R ledger (f ∷ frames) = firstOf (frameChecks R ledger f) ∷ ledgerAnswers R (noted R ledger f) frames
+
+  unfoldable pub ledgerOf : Round → List Frame → List Frame → List Frame
+  ledgerOf R ledger [] = ledger
+  ledgerOf R ledger (f ∷ frames) = ledgerOf R (noted R ledger f) frames
+
+-- ---- the two kinds of round
+
+-- a relay hears the V users of its cluster, and its own number is one of 1 to U
+abbrev pub relayKnown : RelayRound → Bool
+relayKnown R = oneOf (R .round .clusters) (R .cluster)
+
+abbrev pub relayRound : ℕ → Round → RelayRound
+relayRound cluster R = record { cluster = cluster; round = R }
+
+-- the server hears the U relays, and has no number of its own
+abbrev pub serverRound : Round → ServerRound
+serverRound R = record { round = R }

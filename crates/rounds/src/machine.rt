@@ -1,0 +1,320 @@
+// What relay rounds and server rounds share: one body for both. `senders` says how many may report, `known` whether the round's own place is in the
+// plan.
+ghost use mathlib.Core.Path.{_≡_};
+ghost use mathlib.Core.Bool.{true};
+ghost use mathlib.Core.List.{[], _∷_};
+ghost use Prim.Native.Nat.{_-_, _^_, _<_, _≤_};
+ghost use lib.ListN.{length, take};
+ghost use Rattle.refusals.specs.Codes.{accepted, firstOf, ifAccepted, verdictCode};
+ghost use Rattle.arithmetic.specs.Search.{allTo};
+ghost use Rattle.arithmetic.specs.Primes.{allBelow};
+ghost use Rattle.arithmetic.specs.Field.{sumOf};
+ghost use Rattle.matrices.specs.Linear.{zeros};
+ghost use Rattle.vetting.specs.Plans.{countsFit};
+ghost use Rattle.rounds.specs.Blocks.{lengthFits};
+ghost use Rattle.rounds.specs.Ledger.{frame};
+ghost use Rattle.rounds.specs.Rounds.{hasBit, oneOf, openChecks, opened, noRound, stateChecks, after, giveChecks, stepCode, stepped};
+ghost use Rattle.rounds.specs.Machine.{contentChecks, ownChecks, lentChecks, withSums, addedTo};
+use crate::Round;
+use crate::Step;
+use arithmetic::Symbol;
+use arithmetic::Wide;
+use arithmetic::all_below;
+use arithmetic::is_prime;
+use refusals::Refusal;
+use refusals::Verdict;
+use vetting::Plan;
+use vetting::counts_fit;
+
+// Whether x is one of 1 to n.
+pub(crate) fn one_of(n: usize, x: usize) -> bool
+    ensures { λ r. ⌜ r ≡ oneOf n x ⌝ }
+{
+    if x < 1 {
+        return false;
+    }
+    x <= n
+}
+
+pub(crate) fn length_fits(length: usize) -> bool
+    ensures { λ r. ⌜ r ≡ lengthFits length ⌝ }
+{
+    if length < 1 {
+        return false;
+    }
+    length <= Plan::MAX_LENGTH
+}
+
+// Both are reduced, so one subtraction is enough and nothing is divided.
+fn add_reduced(q: Symbol, a: Symbol, b: Symbol) -> Symbol
+    requires { ⌜ (a < q) × (b < q) ⌝ }
+    ensures { λ r. ⌜ r ≡ sumOf q a b ⌝ }
+{
+    let n = q as Wide;
+    let sum = a as Wide + b as Wide;
+    if sum >= n {
+        return (sum - n) as Symbol;
+    }
+    sum as Symbol
+}
+
+fn no_sums() -> [Symbol; 64]
+    ensures { λ r. ⌜ r ≡ zeros 64 ⌝ }
+{
+    [0; 64]
+}
+
+// Opening: 1, 2, 9, 8. A state that is handed in begins with the same tests.
+fn check_opening(clusters: usize, size: usize, q: Symbol, length: usize, known: bool) -> Verdict
+    ensures { λ r. ⌜ verdictCode r ≡ firstOf (openChecks clusters size q length known) ⌝ }
+{
+    if !counts_fit(clusters, size, 0) {
+        return Verdict::Refused(Refusal::OutOfBounds);
+    }
+    if !is_prime(q) {
+        return Verdict::Refused(Refusal::NotPrime);
+    }
+    if !length_fits(length) {
+        return Verdict::Refused(Refusal::BadBlockLength);
+    }
+    if !known {
+        return Verdict::Refused(Refusal::UnknownNumber);
+    }
+    Verdict::Accepted
+}
+
+impl Round {
+    // The round that nobody has reported to.
+    fn empty(clusters: usize, size: usize, q: Symbol, length: usize, number: u32) -> Round
+        ensures { λ r. ⌜ r ≡ opened clusters size q length number ⌝ }
+    {
+        let sums = no_sums();
+        Round {
+            clusters,
+            size,
+            q,
+            length,
+            number,
+            reported: 0,
+            sums,
+        }
+    }
+
+    pub(crate) fn open(
+        clusters: usize,
+        size: usize,
+        q: Symbol,
+        length: usize,
+        number: u32,
+        known: bool,
+    ) -> Step
+        ensures { λ r. ⌜ (verdictCode (r .answer) ≡ firstOf (openChecks clusters size q length known)) × (r .round ≡ ifAccepted (firstOf (openChecks clusters size q length known)) (opened clusters size q length number) noRound) ⌝ }
+    {
+        match check_opening(clusters, size, q, length, known) {
+            Verdict::Refused(refusal) => Step {
+                answer: Verdict::Refused(refusal),
+                round: Round::empty(0, 0, 0, 0, 0),
+            },
+            Verdict::Accepted => Step {
+                answer: Verdict::Accepted,
+                round: Round::empty(clusters, size, q, length, number),
+            },
+        }
+    }
+
+    // Whether the sender's bit is set.
+    fn has_reported(self, sender: usize) -> bool
+        requires { ⌜ (1 ≤ sender) × (sender ≤ 16) ⌝ }
+        ensures { λ r. ⌜ r ≡ hasBit (self .reported) (sender - 1) ⌝ }
+    {
+        (self.reported >> (sender - 1) as u32) & 1 == 1
+    }
+
+    // Who has reported, and the sums: 8, 3.
+    fn check_contents(self, senders: usize) -> Verdict
+        requires { ⌜ (senders ≤ 8) × (self .length ≤ 64) ⌝ }
+        ensures { λ r. ⌜ verdictCode r ≡ firstOf (contentChecks senders self) ⌝ }
+    {
+        if self.reported >> senders as u32 != 0 {
+            return Verdict::Refused(Refusal::UnknownNumber);
+        }
+        let sums = self.sums;
+        let length = self.length;
+        if !all_below(self.q, &sums[..length]) {
+            return Verdict::Refused(Refusal::NotASymbol);
+        }
+        if !all_below(1, &sums[length..]) {
+            return Verdict::Refused(Refusal::NotASymbol);
+        }
+        Verdict::Accepted
+    }
+
+    // A state that is handed in: 1, 2, 9, 8, 3.
+    fn check_state(self, senders: usize, known: bool) -> Verdict
+        requires { ⌜ (countsFit (self .clusters) (self .size) 0 ≡ true → senders ≤ 8) ⌝ }
+        ensures { λ r. ⌜ verdictCode r ≡ firstOf (stateChecks senders known self) ⌝ }
+    {
+        match check_opening(self.clusters, self.size, self.q, self.length, known) {
+            Verdict::Refused(refusal) => Verdict::Refused(refusal),
+            Verdict::Accepted => self.check_contents(senders),
+        }
+    }
+
+    // The frame itself: 8, 4, 3, 14, 11.
+    fn check_own(
+        self,
+        senders: usize,
+        known: bool,
+        sender: usize,
+        number: u32,
+        block: &[Symbol],
+    ) -> Verdict
+        requires { ⌜ senders ≤ 8 ⌝ }
+        ensures { λ r. ⌜ verdictCode r ≡ firstOf (ownChecks senders known self (frame sender number (now (block .entry)))) ⌝ }
+    {
+        if !one_of(senders, sender) {
+            return Verdict::Refused(Refusal::UnknownNumber);
+        }
+        if block.len() != self.length {
+            return Verdict::Refused(Refusal::WrongLength);
+        }
+        if !all_below(self.q, block) {
+            return Verdict::Refused(Refusal::NotASymbol);
+        }
+        if number != self.number {
+            return Verdict::Refused(Refusal::OtherRound);
+        }
+        if self.has_reported(sender) {
+            return Verdict::Refused(Refusal::AlreadyReported);
+        }
+        Verdict::Accepted
+    }
+
+    fn check_frame(
+        self,
+        senders: usize,
+        known: bool,
+        sender: usize,
+        number: u32,
+        block: &[Symbol],
+    ) -> Verdict
+        requires { ⌜ (countsFit (self .clusters) (self .size) 0 ≡ true → senders ≤ 8) ⌝ }
+        ensures { λ r. ⌜ verdictCode r ≡ stepCode senders known self (frame sender number (now (block .entry))) ⌝ }
+    {
+        match self.check_state(senders, known) {
+            Verdict::Refused(refusal) => Verdict::Refused(refusal),
+            Verdict::Accepted => self.check_own(senders, known, sender, number, block),
+        }
+    }
+
+    // Sums and block are below q, position by position.
+    fn add_block(mut self, block: &[Symbol]) -> Round
+        requires { ⌜ (length (now block) ≤ 64) × (0 < self .q) × (allBelow (self .q) (take (length (now block)) (self .sums)) ≡ true) × (allBelow (self .q) (now block) ≡ true) ⌝ }
+        ensures { λ r. ⌜ r ≡ withSums self (addedTo (self .q) (length (now (block .entry))) (self .sums) (now (block .entry))) ⌝ }
+    {
+        let mut p = 0;
+        while p < block.len() {
+            self.sums[p] = add_reduced(self.q, self.sums[p], block[p]);
+            p += 1;
+        }
+        self
+    }
+
+    // The sender's bit, and the block's symbols.
+    fn counted(
+        mut self,
+        senders: usize,
+        known: bool,
+        sender: usize,
+        number: u32,
+        block: &[Symbol],
+    ) -> Round
+        requires { ⌜ (senders ≤ 8) × (accepted ≡ stepCode senders known self (frame sender number (now block))) ⌝ }
+        ensures { λ r. ⌜ r ≡ after senders known self (frame sender number (now (block .entry)) ∷ []) ⌝ }
+    {
+        let bit = (sender - 1) as u32;
+        self.reported = self.reported | (1 << bit);
+        self.add_block(block)
+    }
+
+    // A frame that is refused leaves the round as it was.
+    pub(crate) fn count(
+        self,
+        senders: usize,
+        known: bool,
+        sender: usize,
+        number: u32,
+        block: &[Symbol],
+    ) -> Step
+        requires { ⌜ (countsFit (self .clusters) (self .size) 0 ≡ true → senders ≤ 8) ⌝ }
+        ensures { λ r. ⌜ (verdictCode (r .answer) ≡ stepCode senders known self (frame sender number (now (block .entry)))) × (r .round ≡ stepped senders known self (frame sender number (now (block .entry)))) ⌝ }
+    {
+        match self.check_frame(senders, known, sender, number, block) {
+            Verdict::Refused(refusal) => Step {
+                answer: Verdict::Refused(refusal),
+                round: self,
+            },
+            Verdict::Accepted => Step {
+                answer: Verdict::Accepted,
+                round: self.counted(senders, known, sender, number, block),
+            },
+        }
+    }
+
+    // Whether everyone's bit is set; nobody else's is.
+    fn is_full(self, senders: usize) -> bool
+        requires { ⌜ (senders ≤ 8) × (self .reported < 2 ^ senders) ⌝ }
+        ensures { λ r. ⌜ r ≡ allTo senders (hasBit (self .reported)) ⌝ }
+    {
+        self.reported == (1 << senders as u32) - 1
+    }
+
+    // A lent buffer: 12, 4.
+    fn check_lent(self, senders: usize, known: bool, room: usize) -> Verdict
+        requires { ⌜ (senders ≤ 8) × (self .reported < 2 ^ senders) ⌝ }
+        ensures { λ r. ⌜ verdictCode r ≡ firstOf (lentChecks senders known self room) ⌝ }
+    {
+        if !self.is_full(senders) {
+            return Verdict::Refused(Refusal::NotFull);
+        }
+        if room != self.length {
+            return Verdict::Refused(Refusal::WrongLength);
+        }
+        Verdict::Accepted
+    }
+
+    fn check_give(self, senders: usize, known: bool, out: &[Symbol]) -> Verdict
+        requires { ⌜ (countsFit (self .clusters) (self .size) 0 ≡ true → senders ≤ 8) ⌝ }
+        ensures { λ r. ⌜ verdictCode r ≡ firstOf (giveChecks senders known self [] (now (out .entry))) ⌝ }
+    {
+        match self.check_state(senders, known) {
+            Verdict::Refused(refusal) => Verdict::Refused(refusal),
+            Verdict::Accepted => self.check_lent(senders, known, out.len()),
+        }
+    }
+
+    fn write_sums(self, out: &mut [Symbol])
+        requires { ⌜ length (now out) ≤ 64 ⌝ }
+        ensures { λ _. ⌜ now (out .exit) ≡ take (length (now (out .entry))) (self .sums) ⌝ }
+    {
+        let mut p = 0;
+        while p < out.len() {
+            out[p] = self.sums[p];
+            p += 1;
+        }
+    }
+
+    // Writes only when nothing is refused.
+    pub(crate) fn give(self, senders: usize, known: bool, out: &mut [Symbol]) -> Verdict
+        requires { ⌜ (countsFit (self .clusters) (self .size) 0 ≡ true → senders ≤ 8) ⌝ }
+        ensures { λ r. ⌜ (verdictCode r ≡ firstOf (giveChecks senders known self [] (now (out .entry)))) × (now (out .exit) ≡ ifAccepted (firstOf (giveChecks senders known self [] (now (out .entry)))) (take (self .length) (self .sums)) (now (out .entry))) ⌝ }
+    {
+        match self.check_give(senders, known, out) {
+            Verdict::Refused(refusal) => Verdict::Refused(refusal),
+            Verdict::Accepted => {
+                self.write_sums(out);
+                Verdict::Accepted
+            }
+        }
+    }
+}

@@ -1,0 +1,76 @@
+// The relay's round (document 01: gateway): the users of its cluster report.
+ghost use mathlib.Core.Path.{_≡_};
+ghost use mathlib.Core.List.{[]};
+ghost use lib.ListN.{take};
+ghost use Rattle.refusals.specs.Codes.{firstOf, ifAccepted, verdictCode};
+ghost use Rattle.rounds.specs.Ledger.{frame};
+ghost use Rattle.rounds.specs.Rounds.{oneOf, openChecks, opened, noRound, giveChecks, stepCode, stepped, relayKnown, relayRound};
+use crate::RelayRound;
+use crate::RelayStep;
+use crate::Round;
+use crate::machine::one_of;
+use arithmetic::Symbol;
+use refusals::Verdict;
+
+impl RelayRound {
+    // A refused opening hands back a round of zeros, its cluster too.
+    pub fn open(
+        clusters: usize,
+        size: usize,
+        q: Symbol,
+        length: usize,
+        cluster: usize,
+        number: u32,
+    ) -> RelayStep
+        ensures { λ r. ⌜ (verdictCode (r .answer) ≡ firstOf (openChecks clusters size q length (oneOf clusters cluster))) × (r .round ≡ ifAccepted (firstOf (openChecks clusters size q length (oneOf clusters cluster))) (relayRound cluster (opened clusters size q length number)) (relayRound 0 noRound)) ⌝ }
+    {
+        let step = Round::open(clusters, size, q, length, number, one_of(clusters, cluster));
+        let answer = step.answer;
+        let round = step.round;
+        match answer {
+            Verdict::Refused(refusal) => RelayStep {
+                answer: Verdict::Refused(refusal),
+                round: RelayRound { cluster: 0, round },
+            },
+            Verdict::Accepted => RelayStep {
+                answer: Verdict::Accepted,
+                round: RelayRound { cluster, round },
+            },
+        }
+    }
+
+    // Whether its own number is one of the plan's.
+    fn is_known(self) -> bool
+        ensures { λ r. ⌜ r ≡ relayKnown self ⌝ }
+    {
+        let round = self.round;
+        one_of(round.clusters, self.cluster)
+    }
+
+    // Counts a user's upload. A frame that is refused leaves the round as it was.
+    pub fn count(mut self, sender: usize, number: u32, block: &[Symbol]) -> RelayStep
+        ensures { λ r. ⌜ (verdictCode (r .answer) ≡ stepCode (self .round .size) (relayKnown self) (self .round) (frame sender number (now (block .entry)))) × (r .round ≡ relayRound (self .cluster) (stepped (self .round .size) (relayKnown self) (self .round) (frame sender number (now (block .entry))))) ⌝ }
+    {
+        let round = self.round;
+        let step = round.count(round.size, self.is_known(), sender, number, block);
+        let answer = step.answer;
+        let next = step.round;
+        self.round = next;
+        RelayStep {
+            answer,
+            round: self,
+        }
+    }
+
+    // Gives the sums out, once everyone has reported.
+    pub fn give(mut self, out: &mut [Symbol]) -> RelayStep
+        ensures { λ r. ⌜ (verdictCode (r .answer) ≡ firstOf (giveChecks (self .round .size) (relayKnown self) (self .round) [] (now (out .entry)))) × (now (out .exit) ≡ ifAccepted (firstOf (giveChecks (self .round .size) (relayKnown self) (self .round) [] (now (out .entry)))) (take (self .round .length) (self .round .sums)) (now (out .entry))) × (r .round ≡ self) ⌝ }
+    {
+        let round = self.round;
+        let answer = round.give(round.size, self.is_known(), out);
+        RelayStep {
+            answer,
+            round: self,
+        }
+    }
+}
