@@ -11,7 +11,7 @@ use native.Mathlib.Omega.{arith}
 use lib.Dec.{T, ltb, eqb}
 use lib.ListN.{length, take, drop, replicate}
 use lib.Pow.{pow-pos}
-use lib.Seq.{getD-take, getD-drop}
+use lib.Seq.{getD-take, getD-drop, length-take-le}
 use borrow.Author.Tests.{not-false, eq-eqb, ne-eqb, lt-ltb}
 use Rattle.refusals.specs.Codes.{code, accepted, firstOf}
 use Rattle.refusals.proofs.CodeLaws.{none-holds}
@@ -23,7 +23,7 @@ use Rattle.matrices.specs.Linear.{at, All, zeros}
 use Rattle.secrecy.specs.Lists.{tab}
 use Rattle.secrecy.specs.Counts.{sumTo}
 use Rattle.secrecy.proofs.Sums.{sum-cong, sum-zero}
-use Rattle.secrecy.proofs.ListLaws.{at-tab}
+use Rattle.secrecy.proofs.ListLaws.{at-tab, tab-at, length-tab}
 use Rattle.vetting.proofs.Orders.{first-accepts, rest-decides}
 use Rattle.rounds.specs.declared.Round.{Round}
 use Rattle.rounds.specs.Ledger.{Frame, named, countedAt}
@@ -80,6 +80,14 @@ zeros-fit q L m pos =
     ap₂ _&&_ (zeros-below q m pos (take L (replicate m 0)) (take-zeros L m))
     (zeros-below 1 m (omega arith) (drop L (replicate m 0)) (λ i. getD-drop L (replicate m 0) i 0 ∙ zeros-at m (L + i)))
 
+-- everyone is named on the ledger of these frames
+abbrev pub everyone : ℕ → Bool → Round → List Frame → Bool
+everyone senders known R frames = allTo senders (λ i. named (ledgerOf senders known R [] frames) (suc i))
+
+-- a frame that would be counted, were nobody named yet, carries its sender's block; any other may carry anything
+abbrev pub Carries : ℕ → Bool → Round → (ℕ → List ℕ) → Frame → Type 0
+Carries senders known R B f = stepCode senders known R f ≡ accepted → f .block ≡ B (f .sender)
+
 module _ (senders : ℕ) (known : Bool) (clusters size q L number : ℕ) (pass : accepted ≡ firstOf (openChecks clusters size q L known)) where
   abbrev R : Round
   R = opened clusters size q L number
@@ -115,13 +123,17 @@ module _ (senders : ℕ) (known : Bool) (clusters size q L number : ℕ) (pass :
       (sym (ap (λ (t : Bool). cond t (code 11) accepted) (heard-named [] (f .sender)))
       ∙ rest-decides front (drop 9 (frameChecks senders known R [] f)) tt own)
 
+  run-length : (frames : List Frame) → length (take L (runOf senders known R frames .sums)) ≡ L
+  run-length frames =
+      let (a, r, s) = good-run senders known R opened-state (length-zeros 64) frames in
+      let S : List ℕ = runOf senders known R frames .sums in
+      let sixty-four : length S ≡ 64 = ap (λ (X : Round). length (X .sums)) r ∙ length-tab 64 _ in
+      let few : L ≤ 64 = known-opening .few-length in
+      length-take-le L S (omega arith)
+
   -- ---- everyone's block is a given one
 
   module _ (B : ℕ → List ℕ) where
-    -- a frame that would be counted carries its sender's block
-    abbrev pub Carries : Frame → Type 0
-    Carries f = stepCode senders known R f ≡ accepted → f .block ≡ B (f .sender)
-
     -- what was counted is the blocks of those who are named
     abbrev Kept : List Frame → Type 0
     Kept ledger = (p : ℕ) → countedAt ledger p ≡ sumTo senders (λ v. cond (named ledger (suc v)) (at (B (suc v)) p) 0)
@@ -144,7 +156,7 @@ module _ (senders : ℕ) (known : Bool) (clusters size q L number : ℕ) (pass :
         (named-more ledger f (suc i) ∙ ap₂ _||_ out (eq-eqb (f .sender) (suc i) (sym s)))
         (λ k l ne. named-more ledger f (suc k) ∙ ap (λ (t : Bool). named ledger (suc k) || t) (ne-eqb (f .sender) (suc k) (λ e. ne (omega arith))) ∙ or-none (named ledger (suc k))))
 
-    kept-run : (frames ledger : List Frame) → All Carries frames → Kept ledger → Kept (ledgerOf senders known R ledger frames)
+    kept-run : (frames ledger : List Frame) → All (Carries senders known R B) frames → Kept ledger → Kept (ledgerOf senders known R ledger frames)
     unfolding ledgerOf
     kept-run [] ledger c kept = kept
     kept-run (f ∷ frames) ledger c kept =
@@ -157,7 +169,7 @@ module _ (senders : ℕ) (known : Bool) (clusters size q L number : ℕ) (pass :
             (kept-more ledger f kept (frame-known senders known R ledger f e) (c .0 (would-count ledger f e)))
         step false n = subst Kept (sym (ap (λ (t : Bool). cond t (ledger ++ (f ∷ [])) ledger) n)) kept
 
-    module _ (frames : List Frame) (carry : All Carries frames) (full : allTo senders (λ i. named (ledgerOf senders known R [] frames) (suc i)) ≡ true) where
+    module _ (frames : List Frame) (carry : All (Carries senders known R B) frames) (full : everyone senders known R frames ≡ true) where
       -- the sums are the sums of everyone's block
       pub full-sums : (p : ℕ) → p < L → at (runOf senders known R frames .sums) p ≡ sumTo senders (λ v. at (B (suc v)) p) % q
       full-sums p h =
@@ -172,21 +184,29 @@ module _ (senders : ℕ) (known : Bool) (clusters size q L number : ℕ) (pass :
           (zero-add (countedAt ledger p)
           ∙ kept-run frames [] carry kept-none p
           ∙ sum-cong senders (λ v. cond (named ledger (suc v)) (at (B (suc v)) p) 0) (λ v. at (B (suc v)) p)
-          (λ v l. ap (λ (t : Bool). cond t (at (B (suc v)) p) 0) (T→true _ (all-at senders (λ i. named ledger (suc i)) (true→T _ full) v l))))
+          (λ v l. ap (λ (t : Bool). cond t (at (B (suc v)) p) 0) (T→true (named ledger (suc v)) (all-at senders (λ i. named ledger (suc i)) (true→T (everyone senders known R frames) full) v l))))
+
+      -- and so are those that are given out
+      pub full-block : take L (runOf senders known R frames .sums) ≡ tab L (λ p. sumTo senders (λ v. at (B (suc v)) p) % q)
+      full-block =
+          let S : List ℕ = runOf senders known R frames .sums in
+          sym
+          (tab-at L (λ p. sumTo senders (λ v. at (B (suc v)) p) % q) (take L S) (run-length frames)
+          (λ k h. sym (getD-take L S k 0 h ∙ full-sums k h)))
 
   -- ---- giving the sums
 
   module _ (frames : List Frame) (out : List ℕ) where
     -- 12 exactly where not everyone is named on the ledger
     pub give-code : firstOf (giveChecks senders known (runOf senders known R frames) [] out)
-        ≡ cond (allTo senders (λ i. named (ledgerOf senders known R [] frames) (suc i))) (cond (eqb (length out) L) accepted (code 4)) (code 12)
+        ≡ cond (everyone senders known R frames) (cond (eqb (length out) L) accepted (code 4)) (code 12)
     give-code =
         let ledger : List Frame = ledgerOf senders known R [] frames in
         ledger-give senders known R (length-zeros 64) frames out
         ∙ sym (rest-decides (stateChecks senders known R) (drop 5 (giveChecks senders known R ledger out)) tt opened-state)
         ∙ ap (λ (t : Bool). cond (not t) (code 12) (cond (not (eqb (length out) L)) (code 4) accepted))
         (all-cong senders (λ i. hasReported senders known R ledger (suc i)) (λ i. named ledger (suc i)) (λ i l. heard-named ledger (suc i)))
-        ∙ turn (allTo senders (λ i. named ledger (suc i))) (eqb (length out) L)
+        ∙ turn (everyone senders known R frames) (eqb (length out) L)
       where
         turn : (a b : Bool) → cond (not a) (code 12) (cond (not b) (code 4) accepted) ≡ cond a (cond b accepted (code 4)) (code 12)
         turn true true = refl
