@@ -14,26 +14,14 @@ use borrow.Rule.Slice.PartMut.{same-len-mid}
 use Rattle.arithmetic.specs.Field.{sumOf}
 use Rattle.arithmetic.proofs.Congruence.{residue-mod, to-mod, c-add, c-refl, of-rem}
 use Rattle.secrecy.specs.Lists.{tab, joinTo}
+use Rattle.matrices.specs.Linear.{at}
 use Rattle.secrecy.specs.Counts.{sumTo}
+use Rattle.secrecy.proofs.Sums.{sum-cong}
 use Rattle.vetting.specs.declared.Plan.{Plan}
 use Rattle.vetting.specs.Plans.{usersOf}
+use Rattle.vetting.specs.Walking.{clusterSum}
 use Rattle.vetting.proofs.PlanBounds.{Bounds}
 use Rattle.vetting.proofs.GatherLaws.{row-put, room, few-numbers}
-
--- ---- sums modulo q
-
-module _ (q : ℕ) (f : ℕ → ℕ) where
-  pub sum-none : 0 ≡ sumTo 0 f % q
-  unfolding sumTo
-  sum-none = sym (zero-mod q)
-
-  pub sum-next : (n s : ℕ) → 0 < q → s ≡ sumTo n f % q → sumOf q s (f n) ≡ sumTo (n + 1) f % q
-  unfolding sumTo
-  sum-next n s h e =
-      residue-mod q (s + f n) h
-      ∙ ap (λ (x : ℕ). (x + f n) % q) e
-      ∙ to-mod (c-add (of-rem q (sumTo n f)) c-refl)
-      ∙ ap (λ (k : ℕ). sumTo k f % q) (sym (add-one n))
 
 -- ---- a row's symbols, and rows
 
@@ -60,11 +48,6 @@ unfolding joinTo
 join-next f rate n out y Z h l ey e =
     ap (λ (x : List ℕ). take ((n + 1) * rate) (take (n * rate) out ++ (x ++ Z))) ey
     ∙ row-put rate n out (f n) Z h l ∙ ap (λ (x : List ℕ). x ++ f n) e ∙ ap (λ (k : ℕ). joinTo k f) (sym (add-one n))
-
-pub length-join : (f : ℕ → List ℕ) (rate n : ℕ) → ((k : ℕ) → length (f k) ≡ rate) → length (joinTo n f) ≡ n * rate
-unfolding joinTo
-length-join f rate zero h = omega arith
-length-join f rate (suc n) h = length-append (joinTo n f) (f n) ∙ omega (arith, length-join f rate n h, h n)
 
 -- ---- sizes
 
@@ -108,3 +91,13 @@ module _ (n s m k : ℕ) (L K new : List ℕ) (em : m ≡ n) (ek : k ≡ s) (siz
       ap (λ (x : List ℕ). take t (x ++ (y ++ R))) f
       ∙ ap (take t) (sym (append-assoc K y R))
       ∙ take-at (K ++ y) R t (length-append K y ∙ omega arith)
+
+-- ---- columns
+
+-- the rows of a column sum up like one cluster
+pub one-cluster : (q rows cols : ℕ) (K : List ℕ) (k : ℕ) → clusterSum q rows cols K 0 k ≡ sumTo rows (λ i. at K (i * cols + k)) % q
+unfolding clusterSum
+one-cluster q rows cols K k =
+    ap (λ (s : ℕ). s % q)
+    (sum-cong rows (λ v. at K ((0 * rows + v) * cols + k)) (λ i. at K (i * cols + k))
+    (λ v h. ap (λ (i : ℕ). at K (i * cols + k)) (omega arith)))

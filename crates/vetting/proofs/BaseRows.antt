@@ -24,7 +24,7 @@ use Rattle.vetting.specs.declared.Plan.{Plan}
 use Rattle.vetting.specs.Plans.{poolOf, usersOf}
 use Rattle.vetting.specs.Walking.{clusterSum, baseTable, rowsIn}
 use Rattle.vetting.proofs.PlanBounds.{Bounds}
-use Rattle.vetting.proofs.BaseLaws.{length-join}
+use Rattle.vetting.proofs.Joins.{length-join, join-part}
 use Rattle.vetting.proofs.GatherLaws.{row-length, room}
 
 -- ---- rows joined
@@ -33,22 +33,6 @@ use Rattle.vetting.proofs.GatherLaws.{row-length, room}
 row-front : (cols : ℕ) (A B : List ℕ) (j : ℕ) → j * cols + cols ≤ length A → rowOf cols (A ++ B) j ≡ rowOf cols A j
 row-front cols A B j h =
     ap (take cols) (drop-append-le (j * cols) A B (omega arith)) ∙ take-append-le cols (drop (j * cols) A) B (omega (arith, length-drop (j * cols) A))
-
-module _ (cols : ℕ) (f : ℕ → List ℕ) (each : (u : ℕ) → length (f u) ≡ cols) where
-  pub row-join : (n u : ℕ) → u < n → rowOf cols (joinTo n f) u ≡ f u
-  unfolding joinTo
-  row-join zero u h = absurd (omega arith)
-  row-join (suc n) u h = go (ℕ-discrete u n) (λ k. row-join n u k)
-    where
-      go : Dec (u ≡ n) → (u < n → rowOf cols (joinTo n f) u ≡ f u) → rowOf cols (joinTo n f ++ f n) u ≡ f u
-      go (yes e) ih =
-          let z : u * cols ≡ length (joinTo n f) = omega (arith, length-join f cols n each, ap (λ (x : ℕ). x * cols) e) in
-          ap (λ (x : ℕ). take cols (drop x (joinTo n f ++ f n))) z
-          ∙ ap (take cols) (drop-at (joinTo n f) (f n) (length (joinTo n f)) refl)
-          ∙ sym (ap (take cols) (append-nil (f n)))
-          ∙ take-at (f n) [] cols (each n)
-          ∙ ap f (sym e)
-      go (no d) ih = row-front cols (joinTo n f) (f n) u (room n cols u (length (joinTo n f)) (omega arith) (omega (arith, length-join f cols n each))) ∙ ih (omega arith)
 
 -- ---- the rows of the base table
 
@@ -89,7 +73,7 @@ module _ (P : Plan) (K : List ℕ) (symbols : length K ≡ usersOf P * P .rate) 
       let z : (usersOf P + u) * P .rate ≡ length K + u * P .rate = omega (arith, symbols) in
       ap (λ (x : ℕ). take (P .rate) (drop x (K ++ sums))) z
       ∙ ap (take (P .rate)) (drop-append-add K sums (u * P .rate))
-      ∙ row-join (P .rate) (λ u. tab (P .rate) (clusterSum (P .q) (P .size) (P .rate) K u)) each-sum (P .clusters) u h
+      ∙ join-part (P .rate) (λ u. tab (P .rate) (clusterSum (P .q) (P .size) (P .rate) K u)) each-sum (P .clusters) u h
       ∙ sum-is u
 
   pub base-table : Prime (P .q) → Vector (P .q) (usersOf P * P .rate) K → Bounds P → Table (P .q) (rowsIn P) (P .rate) (baseTable P K)
@@ -102,7 +86,7 @@ module _ (P : Plan) (K : List ℕ) (symbols : length K ≡ usersOf P * P .rate) 
           arith,
           length-append K sums,
           symbols,
-          length-join (λ u. tab (P .rate) (clusterSum (P .q) (P .size) (P .rate) K u)) (P .rate) (P .clusters) each-sum,
+          length-join (P .rate) (λ u. tab (P .rate) (clusterSum (P .q) (P .size) (P .rate) K u)) each-sum (P .clusters),
         );
         valid = λ j l. go j l (decLt j (usersOf P));
       }

@@ -28,27 +28,7 @@ use Rattle.vetting.specs.Keys.{keysOf, keyChecks}
 use Rattle.vetting.proofs.Orders.{rest-decides, first-accepts}
 use Rattle.vetting.proofs.PlanLaws.{Vetted, vetted, vet-numbered}
 use Rattle.vetting.proofs.Fronts.{length-part, part-at}
-
--- ---- lists of one length, one after the other
-
-module _ (L : ℕ) (g : ℕ → List ℕ) (each : (i : ℕ) → length (g i) ≡ L) where
-  pub length-join : (n : ℕ) → length (joinTo n g) ≡ n * L
-  unfolding joinTo
-  length-join zero = sym (zero-mul L)
-  length-join (suc n) = length-append (joinTo n g) (g n) ∙ omega (arith, length-join n, each n)
-
-  pub join-part : (n i : ℕ) → i < n → take L (drop (i * L) (joinTo n g)) ≡ g i
-  unfolding joinTo
-  join-part zero i h = absurd (not-suc-le-zero h)
-  join-part (suc n) i h =
-      ⊎-elim
-      (λ e. subst (λ (j : ℕ). take L (drop (j * L) (joinTo n g ++ g n)) ≡ g j) (sym e) (ap (take L) (drop-at (joinTo n g) (g n) (n * L) (length-join n)) ∙ take-all L (g n) (omega (arith, each n))))
-      (λ l.
-      let m : suc i * L ≤ n * L = mul-le-mul {n₁ = suc i} {m₁ = L} {n₂ = n} {m₂ = L} l (omega arith) in
-      ap (take L) (drop-append-le (i * L) (joinTo n g) (g n) (omega (arith, length-join n)))
-      ∙ take-append-le L (drop (i * L) (joinTo n g)) (g n) (omega (arith, length-join n, length-drop (i * L) (joinTo n g)))
-      ∙ join-part n i l)
-      (eq-or-lt-of-le (le-of-suc-le-suc h))
+use Rattle.vetting.proofs.Joins.{length-join, join-part}
 
 -- ---- the derived list
 

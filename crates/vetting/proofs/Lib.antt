@@ -1,3 +1,4 @@
+pub mod Joins
 pub mod BitLaws
 mod MaskLaws
 mod LevelLaws

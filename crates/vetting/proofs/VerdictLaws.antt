@@ -20,12 +20,11 @@ use Rattle.arithmetic.proofs.PrimeLaws.{true-prime}
 use Rattle.matrices.specs.Linear.{at}
 use Rattle.secrecy.specs.Lists.{tab}
 use Rattle.secrecy.specs.Leaks.{leaks}
-use Rattle.secrecy.proofs.Sums.{sum-cong}
 use Rattle.vetting.specs.declared.Plan.{Plan}
 use Rattle.vetting.specs.Plans.{poolOf, usersOf, inBounds}
 use Rattle.vetting.specs.Walk.{pairs}
-use Rattle.vetting.specs.Verdict.{columnSum, columnCheck, leakCheck, otherChecks, verdict}
-use Rattle.vetting.specs.Walking.{clusterSum, baseTable, hit, walked, foundCode, tableChecks, columnChecks}
+use Rattle.vetting.specs.Verdict.{columnSum, columnCheck, leakCheck, otherChecks, verdict, tableChecks, columnChecks}
+use Rattle.vetting.specs.Walking.{baseTable, hit, walked, foundCode}
 use Rattle.vetting.proofs.Orders.{rest-decides}
 use Rattle.vetting.proofs.Deciding.{pair-verdict, found-verdict}
 
@@ -51,13 +50,6 @@ table-passed P K rest t e =
 -- ---- columns
 
 module _ (P : Plan) (K : List ℕ) where
-  pub one-cluster : (k : ℕ) → clusterSum (P .q) (usersOf P) (P .rate) K 0 k ≡ columnSum P K k
-  unfolding clusterSum columnSum
-  one-cluster k =
-      ap (λ (s : ℕ). s % P .q)
-      (sum-cong (usersOf P) (λ v. at K ((0 * usersOf P + v) * P .rate + k)) (λ i. at K (i * P .rate + k))
-      (λ v h. ap (λ (i : ℕ). at K (i * P .rate + k)) (omega arith)))
-
   pub columns-numbered : (n : ℕ) (f : ℕ → ℕ) → T (numbered (map (columnCheck P K) (tab n f)))
   unfolding tab
   columns-numbered zero f = tt

@@ -1,7 +1,7 @@
 -- The table maker (document 01, "Rules from source document 000"). "Maker: 1, 2, 3, 10, 4, 7 (the maker vets its own table)."
-use Prim.Native.Nat.{ℕ, suc, _+_, _-_, _*_, _/_, _%_, max, min}
+use Prim.Native.Nat.{ℕ, _+_, _-_, _*_, _/_, _%_, max, min}
 use mathlib.Core.Bool.{Bool, not, cond}
-use mathlib.Core.List.{List, [], _∷_, _++_, map}
+use mathlib.Core.List.{List, _∷_, map}
 use lib.Dec.{leb, ltb, eqb}
 use lib.ListN.{length}
 use Rattle.refusals.specs.declared.Code.{Code}

@@ -10,6 +10,7 @@ use Rattle.arithmetic.specs.Primes.{isPrime, allBelow}
 use Rattle.matrices.specs.Linear.{at}
 use Rattle.vetting.specs.declared.Plan.{Plan}
 use Rattle.vetting.specs.Plans.{usersOf, inBounds}
+use Rattle.vetting.specs.Verdict.{tableChecks}
 
 -- two bytes, low first
 abbrev pub word : List ℕ → ℕ → ℕ
@@ -87,13 +88,7 @@ padded K = K ++ replicate (256 - length K) 0
 -- ---- writing
 
 abbrev pub writeChecks : Plan → List ℕ → List ℕ → List (Bool × Code)
-writeChecks P K out =
-    (not (inBounds P), code 1)
-    ∷ (not (eqb (length K) (usersOf P * P .rate)), code 4)
-    ∷ (not (isPrime (P .q)), code 2)
-    ∷ (not (allBelow (P .q) K), code 3)
-    ∷ (not (eqb (length out) (recordSize P)), code 4)
-    ∷ []
+writeChecks P K out = tableChecks P K ++ (not (eqb (length out) (recordSize P)), code 4) ∷ []
 
 abbrev pub writeVerdict : Plan → List ℕ → List ℕ → Code
 writeVerdict P K out = firstOf (writeChecks P K out)

@@ -20,9 +20,21 @@ use Rattle.vetting.specs.Walk.{pairs}
 unfoldable pub columnSum : Plan → List ℕ → ℕ → ℕ
 columnSum P K k = sumTo (usersOf P) (λ i. at K (i * P .rate + k)) % P .q
 
+-- 1, 4, 2, 3
+abbrev pub tableChecks : Plan → List ℕ → List (Bool × Code)
+tableChecks P K =
+    (not (inBounds P), code 1)
+    ∷ (not (eqb (length K) (usersOf P * P .rate)), code 4)
+    ∷ (not (isPrime (P .q)), code 2)
+    ∷ (not (allBelow (P .q) K), code 3)
+    ∷ []
+
 -- 6 names the first column whose sum is not zero, from 1
 abbrev pub columnCheck : Plan → List ℕ → ℕ → Bool × Code
 columnCheck P K k = (not (eqb (columnSum P K k) 0), record { number = 6; first = k + 1; second = 0 })
+
+abbrev pub columnChecks : Plan → List ℕ → List (Bool × Code)
+columnChecks P K = map (columnCheck P K) (tab (P .rate) (λ k. k))
 
 -- 7 names the first pair that leaks
 abbrev pub leakCheck : Plan → List ℕ → Pair → Bool × Code
@@ -30,12 +42,7 @@ leakCheck P K pair = (leaks (poolOf P K) (pair .coalition) (pair .observer), rec
 
 -- the checks before 7, and all
 abbrev pub otherChecks : Plan → List ℕ → List (Bool × Code)
-otherChecks P K =
-    (not (inBounds P), code 1)
-    ∷ (not (eqb (length K) (usersOf P * P .rate)), code 4)
-    ∷ (not (isPrime (P .q)), code 2)
-    ∷ (not (allBelow (P .q) K), code 3)
-    ∷ map (columnCheck P K) (tab (P .rate) (λ k. k))
+otherChecks P K = tableChecks P K ++ columnChecks P K
 
 abbrev pub vetChecks : Plan → List ℕ → List (Bool × Code)
 vetChecks P K = otherChecks P K ++ map (leakCheck P K) (pairs (P .clusters) (P .size) (P .limit))

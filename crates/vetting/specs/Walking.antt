@@ -5,23 +5,21 @@ use Prim.Native.Nat.{ℕ, zero, suc, _+_, _-_, _*_, _/_, _%_, _^_}
 use mathlib.Core.Bool.{Bool, cond, not, _&&_}
 use mathlib.Core.List.{List, [], _∷_, _++_, map}
 use lib.Dec.{eqb}
-use lib.ListN.{length, take, drop, set}
-use Rattle.arithmetic.specs.Primes.{isPrime, allBelow}
+use lib.ListN.{take, drop, set}
 use Rattle.matrices.specs.Linear.{at}
 use Rattle.matrices.specs.Tables.{rowOf, eliminated, pivotsFrom}
 use Rattle.secrecy.specs.Lists.{tab, joinTo, picked}
 use Rattle.secrecy.specs.Counts.{sumTo, howMany}
 use Rattle.secrecy.specs.Model.{inCoalition}
 use Rattle.refusals.specs.declared.Code.{Code}
-use Rattle.refusals.specs.Codes.{code, accepted}
+use Rattle.refusals.specs.Codes.{accepted}
 use Rattle.vetting.specs.declared.Plan.{Plan}
 use Rattle.vetting.specs.declared.Pair.{Pair}
 use Rattle.vetting.specs.declared.Line.{Line}
 use Rattle.vetting.specs.declared.Found.{Found}
 use Rattle.vetting.specs.declared.Found.the-variants.{At, Nothing}
-use Rattle.vetting.specs.Plans.{usersOf, inBounds}
+use Rattle.vetting.specs.Plans.{usersOf}
 use Rattle.vetting.specs.Walk.{pairs}
-use Rattle.vetting.specs.Verdict.{columnCheck}
 
 -- ---- the table of level 0
 
@@ -108,19 +106,6 @@ walked P T = firstHit (hit P T) (pairs (P .clusters) (P .size) (P .limit))
 abbrev pub foundCode : Found → Code
 foundCode (At p) = record { number = 7; first = p .coalition; second = p .observer }
 foundCode Nothing = accepted
-
--- ---- the verdict's checks before 7, in two parts: 1, 4, 2 and 3, and 6
-
-abbrev pub tableChecks : Plan → List ℕ → List (Bool × Code)
-tableChecks P K =
-    (not (inBounds P), code 1)
-    ∷ (not (eqb (length K) (usersOf P * P .rate)), code 4)
-    ∷ (not (isPrime (P .q)), code 2)
-    ∷ (not (allBelow (P .q) K), code 3)
-    ∷ []
-
-abbrev pub columnChecks : Plan → List ℕ → List (Bool × Code)
-columnChecks P K = map (columnCheck P K) (tab (P .rate) (λ k. k))
 
 -- ---- a line, byte by byte
 

@@ -19,9 +19,11 @@ use crate::Plan;
 use crate::Planned;
 use crate::bounds::counts_fit;
 use crate::vet;
+use crate::walk::column_sum;
 use arithmetic::Symbol;
 use arithmetic::is_prime;
 use arithmetic::power_mod;
+use matrices::copy;
 use refusals::Refusal;
 use refusals::Verdict;
 
@@ -85,20 +87,6 @@ fn fill_rows(q: Symbol, generator: Symbol, rows: usize, cols: usize, table: &mut
     }
 }
 
-// The sum of column k of the first rows, kept modulo q.
-fn column_sum(q: Symbol, rows: usize, cols: usize, k: usize, table: &[Symbol]) -> Symbol
-    requires { ⌜ (0 < q) × (k < cols) × (rows * cols ≤ length (now table)) ⌝ }
-    ensures { λ r. ⌜ r ≡ sumTo rows (λ i. at (now (table .entry)) (i * cols + k)) % q ⌝ }
-{
-    let mut sum: Symbol = 0;
-    let mut i = 0;
-    while i < rows {
-        sum = arithmetic::add_mod(q, sum, table[i * cols + k]);
-        i += 1;
-    }
-    sum
-}
-
 // The last row, minus the sum of the others.
 fn fill_last(q: Symbol, rows: usize, cols: usize, table: &mut [Symbol])
     requires { ⌜ (0 < q) × (length (now table) ≡ (rows + 1) * cols) ⌝ }
@@ -125,17 +113,6 @@ fn fill_table(plan: Plan, generator: Symbol, table: &mut [Symbol])
     let m = rows * cols;
     fill_rows(q, generator, rows, cols, &mut table[..m]);
     fill_last(q, rows, cols, table);
-}
-
-fn copy(from: &[Symbol], to: &mut [Symbol])
-    requires { ⌜ length (now from) ≡ length (now to) ⌝ }
-    ensures { λ _. ⌜ now (to .exit) ≡ now (from .entry) ⌝ }
-{
-    let mut j = 0;
-    while j < from.len() {
-        to[j] = from[j];
-        j += 1;
-    }
 }
 
 // Builds the table apart, so that a table that leaks is never written.

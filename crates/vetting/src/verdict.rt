@@ -5,11 +5,10 @@ ghost use mathlib.Core.Bool.{true};
 ghost use lib.ListN.{length};
 ghost use Rattle.refusals.specs.Codes.{firstOf, verdictCode};
 ghost use Rattle.vetting.specs.Plans.{usersOf, inBounds};
-ghost use Rattle.vetting.specs.Verdict.{columnSum, otherChecks, verdict};
-ghost use Rattle.vetting.specs.Walking.{tableChecks, columnChecks};
+ghost use Rattle.vetting.specs.Verdict.{otherChecks, verdict, tableChecks, columnChecks};
 use crate::Found;
 use crate::Plan;
-use crate::walk::cluster_sum;
+use crate::walk::column_sum;
 use crate::walk::find_leak;
 use arithmetic::Symbol;
 use arithmetic::all_below;
@@ -36,23 +35,16 @@ fn check_plan(plan: Plan, table: &[Symbol]) -> Verdict
     Verdict::Accepted
 }
 
-// The sum of column k: all users sum up like one cluster.
-fn column_sum(plan: Plan, k: usize, table: &[Symbol]) -> Symbol
-    requires { ⌜ (inBounds plan ≡ true) × (length (now table) ≡ usersOf plan * plan .rate) × (0 < plan .q) × (k < plan .rate) ⌝ }
-    ensures { λ r. ⌜ r ≡ columnSum plan (now (table .entry)) k ⌝ }
-{
-    cluster_sum(plan.q, plan.clusters * plan.size, plan.rate, 0, k, table)
-}
-
 // Check 6.
 fn check_columns(plan: Plan, table: &[Symbol]) -> Verdict
     requires { ⌜ (inBounds plan ≡ true) × (length (now table) ≡ usersOf plan * plan .rate) × (0 < plan .q) ⌝ }
     ensures { λ r. ⌜ verdictCode r ≡ firstOf (columnChecks plan (now (table .entry))) ⌝ }
 {
     let rate = plan.rate;
+    let users = plan.clusters * plan.size;
     let mut k: usize = 0;
     while k < rate {
-        if column_sum(plan, k, table) != 0 {
+        if column_sum(plan.q, users, rate, k, table) != 0 {
             return Verdict::Refused(Refusal::NotZeroSum {
                 column: k as u16 + 1,
             });

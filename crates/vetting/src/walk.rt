@@ -1,14 +1,15 @@
 // The walk over coalitions and observers, with one reduced table for each depth of a coalition.
 ghost use mathlib.Core.Path.{_≡_};
-ghost use Prim.Native.Nat.{_+_, _*_, _≤_, _<_, _^_};
+ghost use Prim.Native.Nat.{_+_, _*_, _%_, _≤_, _<_, _^_};
 ghost use mathlib.Core.Bool.{true};
 ghost use mathlib.Core.List.{_++_};
 ghost use lib.Count.{ones};
 ghost use lib.ListN.{length, take, drop};
 ghost use lib.Seq.{paste};
+ghost use Rattle.matrices.specs.Linear.{at};
 ghost use Rattle.matrices.specs.Tables.{rowOf};
 ghost use Rattle.secrecy.specs.Lists.{tab, joinTo, picked};
-ghost use Rattle.secrecy.specs.Counts.{howMany};
+ghost use Rattle.secrecy.specs.Counts.{sumTo, howMany};
 ghost use Rattle.vetting.specs.Plans.{plan, usersOf, inBounds};
 ghost use Rattle.vetting.specs.Walking.{chosen, clusterMask, openTo, testedMask, watchMask, clusterSum, baseTable, levelAt, descended, dependent, walked};
 use crate::Found;
@@ -223,14 +224,7 @@ fn walk_levels(
 }
 
 // Symbol k of the sum of the rows of cluster u.
-pub(crate) fn cluster_sum(
-    q: Symbol,
-    size: usize,
-    rate: usize,
-    u: usize,
-    k: usize,
-    table: &[Symbol],
-) -> Symbol
+fn cluster_sum(q: Symbol, size: usize, rate: usize, u: usize, k: usize, table: &[Symbol]) -> Symbol
     requires { ⌜ (0 < q) × ((u * size + size) * rate ≤ length (now table)) × (k < rate) ⌝ }
     ensures { λ r. ⌜ r ≡ clusterSum q size rate (now (table .entry)) u k ⌝ }
 {
@@ -242,6 +236,14 @@ pub(crate) fn cluster_sum(
         v += 1;
     }
     sum
+}
+
+// The sum of column k of the first rows: they sum up like one cluster.
+pub(crate) fn column_sum(q: Symbol, rows: usize, cols: usize, k: usize, table: &[Symbol]) -> Symbol
+    requires { ⌜ (0 < q) × (k < cols) × (rows * cols ≤ length (now table)) ⌝ }
+    ensures { λ r. ⌜ r ≡ sumTo rows (λ i. at (now (table .entry)) (i * cols + k)) % q ⌝ }
+{
+    cluster_sum(q, rows, cols, 0, k, table)
 }
 
 // The sum of the rows of cluster u.

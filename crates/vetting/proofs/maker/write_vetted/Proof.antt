@@ -1,6 +1,11 @@
 use borrow.Author.Needs.{needs}
 use mathlib.Core.Path.{_≡_, refl, sym, ap, _∙_}
-use mathlib.Core.List.{map}
+use mathlib.Core.Bool.{Bool, cond}
+use mathlib.Core.List.{List, map}
+use Prim.Native.Nat.{ℕ}
+use lib.Dec.{eqb}
+use lib.ListN.{length}
+use borrow.Author.Tests.{eq-eqb}
 use Rattle.refusals.specs.declared.Code.{Code}
 use Rattle.refusals.specs.Codes.{verdictCode, firstOf}
 use Rattle.refusals.proofs.CodeLaws.{refused-keeps}
@@ -12,6 +17,10 @@ use Rattle.vetting.proofs.PlanLaws.{bounds-known}
 use Rattle.vetting.proofs.MakerLaws.{made-verdict}
 use Rattle.vetting.proofs.maker.write_vetted.Statement.{statement}
 use Rattle.vetting.proofs.maker.write_vetted.Tie as tie
+
+-- as many symbols are copied as there is room for
+copied-whole : (from to after : List ℕ) → after ≡ cond (eqb (length from) (length to)) from to → length from ≡ length to → after ≡ from
+copied-whole from to after e h = e ∙ ap (λ (t : Bool). cond t from to) (eq-eqb (length from) (length to) h)
 
 fill-table-requires : tie.Need-fill-table-requires
 fill-table-requires c κs = search needs
@@ -58,7 +67,10 @@ same-length-3 c = search needs
 
 returns-2 : tie.Need-returns-2
 returns-2 c =
-    (sym (ap verdictCode (c .before .before .before .before .before .enum-told .given .1)) ∙ found (c .before .before .before .before .before .before .before), c .before .before .copy .ensures ∙ c .before .before .before .before .before .before .before .before .before .before .before .fill-table .ensures)
+    let built : List ℕ = c .before .before .before .before .before .before .before .before .before .before .before .fill-table .last .1 .1 .0 in
+    let lent : List ℕ = c .before .before .before .before .before .before .before .before .before .before .before .before .before .before .before .args .table .now in
+    let copied = copied-whole built lent _ (c .before .before .copy .ensures) (search needs) in
+    (sym (ap verdictCode (c .before .before .before .before .before .enum-told .given .1)) ∙ found (c .before .before .before .before .before .before .before), copied ∙ c .before .before .before .before .before .before .before .before .before .before .before .fill-table .ensures)
 
 pub write-vetted-spec : {M : Type 1} → statement M
 write-vetted-spec =

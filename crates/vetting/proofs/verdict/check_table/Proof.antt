@@ -1,8 +1,8 @@
 use mathlib.Core.Path.{_≡_, sym, ap, _∙_}
 use mathlib.Core.List.{[]}
+use Rattle.vetting.specs.Verdict.{tableChecks, columnChecks}
 use Rattle.refusals.specs.Codes.{accepted, verdictCode, firstOf}
 use Rattle.arithmetic.proofs.PrimeLaws.{prime-pos}
-use Rattle.vetting.specs.Walking.{tableChecks, columnChecks}
 use Rattle.vetting.proofs.Orders.{first-refuses, rest-decides}
 use Rattle.vetting.proofs.VerdictLaws.{table-passed}
 use borrow.Author.Needs.{needs}

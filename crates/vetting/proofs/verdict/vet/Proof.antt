@@ -3,8 +3,8 @@ use mathlib.Core.List.{map}
 use Rattle.refusals.specs.Codes.{accepted, verdictCode, firstOf}
 use Rattle.arithmetic.proofs.PrimeLaws.{prime-pos}
 use Rattle.vetting.specs.Walk.{pairs}
-use Rattle.vetting.specs.Verdict.{leakCheck, otherChecks, verdict}
-use Rattle.vetting.specs.Walking.{foundCode, columnChecks}
+use Rattle.vetting.specs.Verdict.{leakCheck, otherChecks, verdict, columnChecks}
+use Rattle.vetting.specs.Walking.{foundCode}
 use Rattle.vetting.proofs.Orders.{first-refuses}
 use Rattle.vetting.proofs.VerdictLaws.{table-passed, columns-numbered, walk-verdict}
 use borrow.Author.Needs.{needs}

@@ -1,12 +1,13 @@
 -- The invariant: the sum of the symbols passed, modulo q.
-use mathlib.Core.Path.{_≡_, ap, _∙_}
+use mathlib.Core.Path.{refl, _≡_, ap, _∙_}
 use Prim.Native.Nat.{ℕ, _+_, _-_, _*_, _%_, _≤_, _<_}
 use native.Mathlib.Omega.{arith}
 use lib.ListN.{length}
 use Rattle.matrices.specs.Linear.{at}
 use Rattle.secrecy.specs.Counts.{sumTo}
 use Rattle.vetting.specs.Walking.{clusterSum}
-use Rattle.vetting.proofs.BaseLaws.{sum-none, sum-next, rows-below}
+use Rattle.vetting.proofs.BaseLaws.{rows-below}
+use Rattle.vetting.proofs.RunningSum.{kept-none, kept-next}
 use Rattle.vetting.proofs.GatherLaws.{room}
 use borrow.Author.Needs.{needs}
 use Rattle.vetting.proofs.walk.cluster_sum.Statement.{statement}
@@ -21,7 +22,7 @@ abbrev μ-loop : tie.MeasureT-loop
 loop-holds : tie.Need-loop-holds Inv-loop μ-loop
 loop-holds c =
     let a = c .before .args in
-    (omega arith, sum-none (a .q) (λ v. at (a .table .now) ((a .u * a .size + v) * a .rate + a .k)))
+    (omega arith, kept-none (a .q) (λ v. at (a .table .now) ((a .u * a .size + v) * a .rate + a .k)))
 
 -- symbol k of row v of the cluster lies in the table, and there are fewer rows than symbols
 index : (c : tie.In-loop Inv-loop μ-loop) → (let a = c .before .before .before .args in (a .u * a .size + c .before .loop .v) * a .rate + a .rate ≤ length (a .table .now))
@@ -69,7 +70,7 @@ loop-again c =
     let d = c .before .before .before .before .before in
     let a = d .args in (
       omega (arith, c .before .before .loop-test .taken),
-      c .add-mod .ensures ∙ sum-next (a .q) (λ v. at (a .table .now) ((a .u * a .size + v) * a .rate + a .k)) (s .v) (s .sum) (d .pre .0) (s .inv .1),
+      c .add-mod .ensures ∙ kept-next (a .q) (λ v. at (a .table .now) ((a .u * a .size + v) * a .rate + a .k)) (s .v) (s .sum) _ (d .pre .0) (s .inv .1) refl,
     )
 
 returns : tie.Need-returns Inv-loop μ-loop

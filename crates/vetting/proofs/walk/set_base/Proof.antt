@@ -8,7 +8,8 @@ use Rattle.secrecy.proofs.ListLaws.{length-tab}
 use Rattle.vetting.specs.Plans.{usersOf}
 use Rattle.vetting.specs.Walking.{clusterSum, baseTable}
 use Rattle.vetting.proofs.PlanBounds.{Bounds, bounds-known}
-use Rattle.vetting.proofs.BaseLaws.{base-room, length-join, copy-length, both-length, both-front}
+use Rattle.vetting.proofs.Joins.{length-join}
+use Rattle.vetting.proofs.BaseLaws.{base-room, copy-length, both-length, both-front}
 use borrow.Author.Needs.{needs}
 use Rattle.vetting.proofs.walk.set_base.Statement.{statement}
 use Rattle.vetting.proofs.walk.set_base.Tie as tie
@@ -76,7 +77,7 @@ returns c =
     let m : ℕ = P .clusters * P .rate in
     let y : List ℕ = c .before .before .sum-rows .last .1 .1 .1 .1 .1 .0 in
     let told : y ≡ joinTo (P .clusters) (λ u. tab (P .rate) (clusterSum (P .q) (P .size) (P .rate) K u)) = c .before .before .sum-rows .ensures in
-    let l : length y ≡ m = ap length told ∙ length-join _ (P .rate) (P .clusters) (λ u. length-tab (P .rate) (clusterSum (P .q) (P .size) (P .rate) K u)) in (
+    let l : length y ≡ m = ap length told ∙ length-join (P .rate) (λ u. tab (P .rate) (clusterSum (P .q) (P .size) (P .rate) K u)) (λ u. length-tab (P .rate) (clusterSum (P .q) (P .size) (P .rate) K u)) (P .clusters) in (
       both-length n m (n - 0) (n + m - n) (s .args .levels .now) K _ (omega arith) (omega arith) (s .pre .1) (room s) (c .before .before .before .before .before .before .copy .ensures) y l ∙ s .pre .3,
       both-front n m (n - 0) (n + m - n) (s .args .levels .now) K _ (omega arith) (omega arith) (s .pre .1) (room s) (c .before .before .before .before .before .before .copy .ensures) y ((usersOf P + P .clusters) * P .rate) l (omega arith)
           ∙ ap (λ (x : List ℕ). K ++ x) told,
