@@ -5,4 +5,5 @@ mod ReportedLaws
 mod StepLaws
 pub mod LedgerLaws
 pub mod RoundLaws
+pub mod Equations
 pub mod Totals

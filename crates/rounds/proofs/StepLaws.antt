@@ -29,17 +29,6 @@ use Rattle.rounds.specs.Machine.{withSums, addedTo}
 use Rattle.rounds.proofs.CheckLaws.{Good, Passed}
 use Rattle.rounds.proofs.ReportedLaws.{set-bit}
 
--- ---- a sum of two symbols, by one subtraction at most
-
-pub sum-over : (q a b : ℕ) → a < q → b < q → q ≤ a + b → a + b - q ≡ sumOf q a b
-sum-over q a b h k l =
-    let e : a + b ≡ q + (a + b - q) = omega arith in
-    let s : a + b - q < q = omega arith in
-    sym (residue-mod q (a + b) (omega arith) ∙ ap (λ (z : ℕ). z % q) e ∙ add-mod-left q (a + b - q) ∙ mod-eq-of-lt s)
-
-pub sum-under : (q a b : ℕ) → a + b < q → a + b ≡ sumOf q a b
-sum-under q a b l = sym (residue-mod q (a + b) (omega arith) ∙ mod-eq-of-lt l)
-
 -- ---- everyone has reported, where the round has no ledger
 
 pub all-cong : (n : ℕ) (f g : ℕ → Bool) → ((k : ℕ) → k < n → f k ≡ g k) → allTo n f ≡ allTo n g

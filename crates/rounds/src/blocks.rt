@@ -16,7 +16,7 @@ use refusals::Verdict;
 use vetting::Plan;
 
 // Whether a block may have this length.
-pub fn length_fits(length: usize) -> bool
+pub(crate) fn length_fits(length: usize) -> bool
     ensures { λ r. ⌜ r ≡ lengthFits length ⌝ }
 {
     if length < 1 {
@@ -35,7 +35,7 @@ fn correct(q: Symbol, s: Wide) -> Symbol
     rest as Symbol
 }
 
-fn add_reduced(q: Symbol, a: Symbol, b: Symbol) -> Symbol
+pub(crate) fn add_reduced(q: Symbol, a: Symbol, b: Symbol) -> Symbol
     requires { ⌜ (a < q) × (b < q) ⌝ }
     ensures { λ r. ⌜ r ≡ sumOf q a b ⌝ }
 {

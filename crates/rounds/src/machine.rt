@@ -8,22 +8,20 @@ ghost use lib.ListN.{length, take};
 ghost use Rattle.refusals.specs.Codes.{accepted, firstOf, ifAccepted, verdictCode};
 ghost use Rattle.arithmetic.specs.Search.{allTo};
 ghost use Rattle.arithmetic.specs.Primes.{allBelow};
-ghost use Rattle.arithmetic.specs.Field.{sumOf};
 ghost use Rattle.matrices.specs.Linear.{zeros};
 ghost use Rattle.vetting.specs.Plans.{countsFit};
-ghost use Rattle.rounds.specs.Blocks.{lengthFits};
 ghost use Rattle.rounds.specs.Ledger.{frame};
 ghost use Rattle.rounds.specs.Rounds.{hasBit, oneOf, openChecks, opened, noRound, stateChecks, after, giveChecks, stepCode, stepped};
 ghost use Rattle.rounds.specs.Machine.{contentChecks, ownChecks, lentChecks, withSums, addedTo};
 use crate::Round;
 use crate::Step;
+use crate::blocks::add_reduced;
+use crate::blocks::length_fits;
 use arithmetic::Symbol;
-use arithmetic::Wide;
 use arithmetic::all_below;
 use arithmetic::is_prime;
 use refusals::Refusal;
 use refusals::Verdict;
-use vetting::Plan;
 use vetting::counts_fit;
 
 // Whether x is one of 1 to n.
@@ -34,28 +32,6 @@ pub(crate) fn one_of(n: usize, x: usize) -> bool
         return false;
     }
     x <= n
-}
-
-pub(crate) fn length_fits(length: usize) -> bool
-    ensures { λ r. ⌜ r ≡ lengthFits length ⌝ }
-{
-    if length < 1 {
-        return false;
-    }
-    length <= Plan::MAX_LENGTH
-}
-
-// Both are reduced, so one subtraction is enough and nothing is divided.
-fn add_reduced(q: Symbol, a: Symbol, b: Symbol) -> Symbol
-    requires { ⌜ (a < q) × (b < q) ⌝ }
-    ensures { λ r. ⌜ r ≡ sumOf q a b ⌝ }
-{
-    let n = q as Wide;
-    let sum = a as Wide + b as Wide;
-    if sum >= n {
-        return (sum - n) as Symbol;
-    }
-    sum as Symbol
 }
 
 fn no_sums() -> [Symbol; 64]

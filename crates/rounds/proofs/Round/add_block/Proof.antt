@@ -20,7 +20,6 @@ use Rattle.rounds.proofs.Round.add_block.Statement.{statement}
 use Rattle.rounds.proofs.Round.add_block.Tie as tie
 use Rattle.rounds.proofs.Round.add_block.Reads as reads
 use Rattle.rounds.proofs.Round.add_block.Lts as lts
-use Rattle.rounds.proofs.machine.add_reduced.Reads as add-reduced-reads
 
 abbrev Inv-loop : tie.InvT-loop
 Inv-loop block self₀ p₀ self p = (p ≤ length block) × (length (self₀ .sums) ≡ 64) × (self ≡ withSums self₀ (addedTo (self₀ .q) p (self₀ .sums) block))

@@ -10,7 +10,6 @@ use Rattle.rounds.proofs.machine.check_opening.Tie as tie
 use Rattle.rounds.proofs.machine.check_opening.Reads as reads
 use Rattle.rounds.proofs.machine.check_opening.Lts as lts
 use Rattle.arithmetic.proofs.is_prime.Reads as is-prime-reads
-use Rattle.rounds.proofs.machine.length_fits.Reads as length-fits-reads
 use Rattle.vetting.proofs.counts_fit.Reads as counts-fit-reads
 
 counts-fit-requires : tie.Need-counts-fit-requires
