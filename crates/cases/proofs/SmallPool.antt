@@ -1,12 +1,13 @@
 -- Document 01, "One small pool": the cases marked P, as one table of the definitions. Each line is a case of the paper, in its order.
 use Prim.Native.Nat.{ℕ}
 use mathlib.Core.Path.{_≡_, refl, sym}
+use mathlib.Core.Bool.{true}
 use mathlib.Core.List.{List, [], _∷_}
+use lib.ListN.{take}
 use Rattle.refusals.specs.Codes.{code, accepted, firstOf}
 use Rattle.arithmetic.specs.Search.{allTo}
 use Rattle.arithmetic.specs.Primes.{isPrime, allBelow}
 use Rattle.arithmetic.specs.Field.{powerOf, inverseBelow, inverseOf}
-use Rattle.matrices.specs.Linear.{zeros}
 use Rattle.matrices.specs.Tables.{pivotOf, scaled, fused, cleared, eachRow, eliminatedFrom, pivotsFrom}
 use Rattle.secrecy.specs.Lists.{tab, joinTo, picked}
 use Rattle.secrecy.specs.Counts.{sumTo, howMany}
@@ -18,6 +19,9 @@ use Rattle.vetting.specs.Walking.{clusterSum, baseTable, membersFrom, reducedBy
 use Rattle.vetting.specs.Maker.{rateOf, entry, lastEntry, madeTable, makerChecks}
 use Rattle.vetting.specs.Keys.{keysOf}
 use Rattle.vetting.proofs.VerdictLaws.{walk-verdict}
+use Rattle.rounds.specs.Blocks.{uploadOf}
+use Rattle.rounds.specs.Ledger.{frame, named, bitsOf, countedAt}
+use Rattle.rounds.specs.Rounds.{hasBit, opened, runOf}
 
 -- the pool's rows, its source symbols and its readings
 abbrev rows : List ℕ
@@ -59,6 +63,23 @@ relay-sums = refl
 pub the-total : total (poolOf (plan 2 2 1 3 5) rows) 1 W 0 ≡ 4
 unfolding total reading sumTo
 the-total = refl
+
+-- the same by the rounds: each user's block, what each relay holds once its users have reported, and what the server shows
+pub sent : uploadOf 5 4 W (1 ∷ 2 ∷ 2 ∷ 0 ∷ []) ≡ 4 ∷ 1 ∷ 2 ∷ 2 ∷ []
+unfolding tab
+sent = refl
+
+pub first-relay : take 1 (runOf 2 true (opened 2 2 5 1 9) (frame 1 9 (4 ∷ []) ∷ frame 2 9 (1 ∷ []) ∷ []) .sums) ≡ 0 ∷ []
+unfolding tab runOf isPrime allTo allBelow hasBit named bitsOf countedAt
+first-relay = refl
+
+pub second-relay : take 1 (runOf 2 true (opened 2 2 5 1 9) (frame 2 9 (2 ∷ []) ∷ frame 1 9 (2 ∷ []) ∷ []) .sums) ≡ 4 ∷ []
+unfolding tab runOf isPrime allTo allBelow hasBit named bitsOf countedAt
+second-relay = refl
+
+pub shown : take 1 (runOf 2 true (opened 2 2 5 1 9) (frame 2 9 (4 ∷ []) ∷ frame 1 9 (0 ∷ []) ∷ []) .sums) ≡ 4 ∷ []
+unfolding tab runOf isPrime allTo allBelow hasBit named bitsOf countedAt
+shown = refl
 
 -- "the same table with T 2 is refused 7, gang 3, watcher 2"; "the maker with T 2 refuses 10"
 pub leaks-to-two : verdict (plan 2 2 2 3 5) rows ≡ record { number = 7; first = 3; second = 2 }
