@@ -73,7 +73,7 @@ pub fn shape(number: usize) -> Shape {
     }
 }
 
-// L in turn from 0 to 65.
+// L, in turn from 0 to 65.
 pub fn positions(number: usize) -> usize {
     number / 10 % 66
 }
@@ -91,7 +91,7 @@ pub fn keys_length(number: usize) -> usize {
     )
 }
 
-// One symbol of eight sources becomes q or the largest number.
+// In one source of eight a symbol becomes q or the largest number.
 fn spoil(source: &mut [Symbol], q: usize, x: usize) {
     let i = draw(step(x), source.len());
     match draw(x, 16) {
@@ -101,7 +101,7 @@ fn spoil(source: &mut [Symbol], q: usize, x: usize) {
     }
 }
 
-// The table made the other way; one symbol of one in 16 becomes 0.
+// The table made the other way; in one of 16 a symbol becomes 0.
 fn fill_table(s: Shape, t: &mut [Symbol], x: usize) {
     fill_made(s, 3, t);
     if draw(x, 16) == 0 {

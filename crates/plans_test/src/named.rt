@@ -77,7 +77,7 @@ fn length_case(positions: usize, expected: usize) -> usize {
     )
 }
 
-// A table of no symbols: 1 comes before 4.
+// The table's length is wrong too, but 1 comes first.
 fn too_many_clusters() -> usize {
     let table = [0 as Symbol; 1];
     class(
@@ -97,7 +97,7 @@ fn largest_shape() -> Shape {
     }
 }
 
-// 16 users and a coalition limit of 7: all coalitions of that size are gone through.
+// 16 users and the largest limit that the maker takes: all coalitions of up to 7 are gone through.
 fn largest() -> usize {
     let mut table = [0 as Symbol; 240];
     let mut other = [0 as Symbol; 240];

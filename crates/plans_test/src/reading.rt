@@ -62,7 +62,7 @@ pub fn damaged(number: usize) -> Reading {
     }
 }
 
-// From half of the first bytes on to a length that is mostly too short, now and then too long.
+// Up to 100 bytes missing in front, which are 36 of the record's; or, in one of seven, some missing in the back or up to 6 added there.
 pub fn cut(number: usize) -> Reading {
     let record = number % 512;
     let size = record_size(drawn_shape(record)) % 65536;
