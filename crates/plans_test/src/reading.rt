@@ -62,7 +62,7 @@ pub fn damaged(number: usize) -> Reading {
     }
 }
 
-// Up to 100 bytes missing in front, which are 36 of the record's; or, in one of seven, some missing in the back or up to 6 added there.
+// Up to 99 bytes missing in front, the last 35 of them the record's; or, in one of seven, some missing in the back or up to 5 added there.
 pub fn cut(number: usize) -> Reading {
     let record = number % 512;
     let size = record_size(drawn_shape(record)) % 65536;
