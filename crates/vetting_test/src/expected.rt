@@ -1,0 +1,78 @@
+// The verdict another way: the checks before 7 one by one, each from the paper's words.
+use crate::numbers::has_two_divisors;
+use crate::numbers::pack;
+use crate::numbers::product;
+use crate::numbers::residue;
+use crate::tables::Shape;
+use crate::tables::at;
+use crate::tables::entry;
+use crate::tables::symbols;
+use crate::tables::users;
+use arithmetic::Symbol;
+use std::num::wrapping_add_usize;
+
+fn is_one_to(n: usize, most: usize) -> bool {
+    n != 0 && n <= most
+}
+
+// Bounds: U and V from 1 to 8, U V at most 16, T from 0 to U V, R from 1 to 16.
+fn fits(s: Shape) -> bool {
+    let counts = is_one_to(s.clusters, 8) && is_one_to(s.size, 8) && is_one_to(s.rate, 16);
+    counts && users(s) <= 16 && s.limit <= users(s)
+}
+
+// How many numbers of the table are not below q.
+fn count_large(q: usize, t: &[Symbol]) -> usize {
+    let mut n: usize = 0;
+    for i in 0..t.len() {
+        if at(t, i) >= q {
+            n = wrapping_add_usize(n, 1);
+        }
+    }
+    n
+}
+
+// The sum of column k over all rows, from the last up.
+fn column_sum(s: Shape, t: &[Symbol], k: usize) -> usize {
+    let mut sum: usize = 0;
+    let mut i = users(s);
+    while i > 0 {
+        i -= 1;
+        sum = wrapping_add_usize(sum, entry(s, t, i, k));
+    }
+    residue(sum, s.q)
+}
+
+// The first column, from 1, whose sum is not 0; found from the last column back. 0 where there is none.
+fn wrong_column(s: Shape, t: &[Symbol]) -> usize {
+    let mut found: usize = 0;
+    let mut k = s.rate;
+    while k > 0 {
+        if column_sum(s, t, k - 1) != 0 {
+            found = k;
+        }
+        k -= 1;
+    }
+    found
+}
+
+// Checks 1, 4, 2, 3 and 6 packed; 0 where none refuses.
+pub fn refusal(s: Shape, t: &[Symbol]) -> usize {
+    if !fits(s) {
+        return pack(1, 0, 0);
+    }
+    if t.len() != symbols(s) {
+        return pack(4, 0, 0);
+    }
+    if !has_two_divisors(s.q) {
+        return pack(2, 0, 0);
+    }
+    if count_large(s.q, t) != 0 {
+        return pack(3, 0, 0);
+    }
+    let k = wrong_column(s, t);
+    if k == 0 {
+        return 0;
+    }
+    pack(6, k, 0)
+}

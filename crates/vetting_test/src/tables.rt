@@ -1,0 +1,96 @@
+// Shapes of plans, and key tables for them.
+use crate::numbers::draw;
+use crate::numbers::mul_add;
+use crate::numbers::narrow;
+use crate::numbers::product;
+use crate::numbers::residue;
+use crate::numbers::seed;
+use crate::numbers::step;
+use crate::numbers::wide;
+use arithmetic::Symbol;
+use std::num::wrapping_sub_usize;
+
+// The counts of a plan and its q, all as numbers of one type.
+pub struct Shape {
+    pub clusters: usize,
+    pub size: usize,
+    pub limit: usize,
+    pub rate: usize,
+    pub q: usize,
+}
+
+pub fn users(s: Shape) -> usize {
+    product(s.clusters, s.size)
+}
+
+pub fn symbols(s: Shape) -> usize {
+    product(users(s), s.rate)
+}
+
+// 0 past the end, so that no caller has to show that a place is inside; a write there changes nothing.
+pub fn at(t: &[Symbol], i: usize) -> usize {
+    if i < t.len() { wide(t[i]) } else { 0 }
+}
+
+pub fn put(t: &mut [Symbol], i: usize, a: usize) {
+    if i < t.len() {
+        t[i] = narrow(a);
+    }
+}
+
+// Symbol k of row i.
+pub fn entry(s: Shape, t: &[Symbol], i: usize, k: usize) -> usize {
+    at(t, mul_add(k, i, s.rate))
+}
+
+// Adds c to symbol k of row i.
+pub fn add(s: Shape, t: &mut [Symbol], i: usize, k: usize, c: usize) {
+    let x = mul_add(k, i, s.rate);
+    put(t, x, residue(at(t, x) % 65536 + c % 65536, s.q));
+}
+
+// Moves a symbol from one row to another in one column, which leaves the column's sum.
+fn shift(s: Shape, t: &mut [Symbol], x: usize) {
+    let y = step(x);
+    let z = step(y);
+    let k = draw(z, s.rate);
+    let c = draw(step(z), s.q);
+    add(s, t, draw(x, users(s)), k, c);
+    add(s, t, draw(y, users(s)), k, wrapping_sub_usize(s.q, c));
+}
+
+// From a table of zeros: every column keeps the sum 0. Few turns leave zero rows and dependent ones.
+fn shift_often(s: Shape, t: &mut [Symbol], turns: usize, start: usize) {
+    let mut x = start;
+    for turn in 0..turns {
+        x = seed(seed(x));
+        shift(s, t, x);
+    }
+}
+
+// Often many turns, sometimes a few or none.
+fn turns(x: usize) -> usize {
+    match draw(x, 8) {
+        0 => draw(step(x), 4),
+        1 => draw(step(x), 8),
+        _ => 60,
+    }
+}
+
+// In one table of 16 a number that is not below q, in another one a column whose sum is not 0, if c is none.
+fn spoil(s: Shape, t: &mut [Symbol], x: usize) {
+    let y = step(x);
+    let i = draw(step(y), users(s));
+    let k = draw(y, s.rate);
+    match draw(x, 16) {
+        0 => put(t, mul_add(k, i, s.rate), s.q % 65536 + step(y) % 2),
+        1 => add(s, t, i, k, draw(seed(y), s.q)),
+        _ => {}
+    }
+}
+
+// Makes a table of zeros the table of a case.
+pub fn make(s: Shape, t: &mut [Symbol], x: usize) {
+    shift_often(s, t, turns(step(x)), x);
+    spoil(s, t, seed(seed(x)));
+}
