@@ -1,6 +1,6 @@
 -- What one step of a round comes to: symbols added without a division, and sums added to position by position.
 use Prim.Native.Nat.{ℕ, zero, suc, _+_, _-_, _*_, _%_, _^_, _≤_, _<_}
-use mathlib.Core.Path.{_≡_, refl, sym, ap, ap₂, _∙_, subst}
+use mathlib.Core.Path.{_≡_, refl, sym, ap, ap₂, _∙_}
 use mathlib.Core.Bool.{Bool, true, false, cond, _&&_, _||_}
 use mathlib.Core.Logic.{_≢_}
 use mathlib.Core.List.{List, [], _∷_, _++_}
@@ -17,16 +17,16 @@ use Rattle.arithmetic.specs.Search.{allTo}
 use Rattle.arithmetic.specs.Primes.{allBelow}
 use Rattle.arithmetic.specs.Field.{sumOf}
 use Rattle.arithmetic.proofs.Congruence.{residue-mod}
+use Rattle.arithmetic.proofs.Searches.{true→T}
+use Rattle.arithmetic.proofs.PrimeLaws.{below-at}
 use Rattle.matrices.specs.Linear.{at}
 use Rattle.secrecy.specs.Lists.{tab}
 use Rattle.secrecy.proofs.ListLaws.{at-tab, length-tab, tab-at, tab-cong}
-use Rattle.arithmetic.proofs.Searches.{true→T}
-use Rattle.arithmetic.proofs.PrimeLaws.{below-at}
 use Rattle.rounds.specs.declared.Round.{Round}
 use Rattle.rounds.specs.Ledger.{Frame, named, bitsOf, countedAt}
 use Rattle.rounds.specs.Rounds.{hasBit, hasReported, after}
 use Rattle.rounds.specs.Machine.{withSums, addedTo}
-use Rattle.rounds.proofs.CheckLaws.{Good, Passed}
+use Rattle.rounds.proofs.CheckLaws.{Passed}
 use Rattle.rounds.proofs.ReportedLaws.{set-bit}
 
 -- ---- a sum of two symbols, by one subtraction at most

@@ -1,26 +1,19 @@
-use mathlib.Core.Path.{subst}
-use mathlib.Core.Bool.{true}
-use lib.ListN.{take}
+use Prim.Native.Nat.{ℕ, _-_, _≤_, _<_}
+use mathlib.Core.Path.{_≡_, sym, ap, ap₂, _∙_}
+use mathlib.Core.List.{List}
+use native.Mathlib.Omega.{arith}
+use lib.ListN.{take, length, set}
 use lib.Seq.{getD-take}
-use Rattle.arithmetic.specs.Primes.{allBelow}
+use borrow.Author.Needs.{needs}
 use Rattle.arithmetic.proofs.Searches.{true→T}
 use Rattle.arithmetic.proofs.PrimeLaws.{below-at}
-use Rattle.rounds.proofs.StepLaws.{added-none, added-at, added-next}
-use borrow.Author.Needs.{needs}
-use mathlib.Core.Path.{_≡_, refl, sym, ap, ap₂, _∙_}
-use mathlib.Core.List.{List}
-use Prim.Native.Nat.{ℕ, _+_, _-_, _≤_, _<_}
-use native.Mathlib.Omega.{arith}
-use lib.ListN.{length, set}
 use Rattle.arithmetic.specs.Field.{sumOf}
 use Rattle.matrices.specs.Linear.{at}
 use Rattle.rounds.specs.declared.Round.{Round}
 use Rattle.rounds.specs.Machine.{withSums, addedTo}
+use Rattle.rounds.proofs.StepLaws.{added-none, added-at, added-next}
 use Rattle.rounds.proofs.Round.add_block.Statement.{statement}
 use Rattle.rounds.proofs.Round.add_block.Tie as tie
-use Rattle.rounds.proofs.Round.add_block.Reads as reads
-use Rattle.rounds.proofs.Round.add_block.Lts as lts
-use Rattle.rounds.proofs.machine.add_reduced.Reads as add-reduced-reads
 
 abbrev Inv-loop : tie.InvT-loop
 Inv-loop block self₀ p₀ self p = (p ≤ length block) × (length (self₀ .sums) ≡ 64) × (self ≡ withSums self₀ (addedTo (self₀ .q) p (self₀ .sums) block))

@@ -1,17 +1,13 @@
 use mathlib.Core.Path.{_≡_, sym, ap, _∙_}
+use borrow.Author.Needs.{needs}
 use Rattle.refusals.specs.Codes.{accepted, verdictCode, firstOf}
 use Rattle.vetting.proofs.Orders.{first-refuses, rest-decides}
 use Rattle.rounds.specs.Ledger.{frame}
 use Rattle.rounds.specs.Rounds.{stateChecks}
 use Rattle.rounds.specs.Machine.{ownChecks}
 use Rattle.rounds.proofs.CheckLaws.{good-state}
-use borrow.Author.Needs.{needs}
 use Rattle.rounds.proofs.Round.check_frame.Statement.{statement}
 use Rattle.rounds.proofs.Round.check_frame.Tie as tie
-use Rattle.rounds.proofs.Round.check_frame.Reads as reads
-use Rattle.rounds.proofs.Round.check_frame.Lts as lts
-use Rattle.rounds.proofs.Round.check_own.Reads as check-own-reads
-use Rattle.rounds.proofs.Round.check_state.Reads as check-state-reads
 
 check-state-requires : tie.Need-check-state-requires
 check-state-requires c κs = c .before .pre

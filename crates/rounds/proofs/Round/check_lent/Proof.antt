@@ -1,16 +1,13 @@
-use borrow.Author.Tests.{not-true, not-false, eq-eqb, ne-eqb}
+use Prim.Native.Nat.{suc}
 use mathlib.Core.Path.{_≡_, sym, _∙_}
 use mathlib.Core.List.{[]}
-use Prim.Native.Nat.{suc}
+use borrow.Author.Tests.{not-true, not-false, eq-eqb, ne-eqb}
+use borrow.Author.Needs.{needs}
 use Rattle.arithmetic.specs.Search.{allTo}
 use Rattle.rounds.specs.Rounds.{hasReported}
 use Rattle.rounds.proofs.StepLaws.{heard-bits}
-use borrow.Author.Needs.{needs}
 use Rattle.rounds.proofs.Round.check_lent.Statement.{statement}
 use Rattle.rounds.proofs.Round.check_lent.Tie as tie
-use Rattle.rounds.proofs.Round.check_lent.Reads as reads
-use Rattle.rounds.proofs.Round.check_lent.Lts as lts
-use Rattle.rounds.proofs.Round.is_full.Reads as is-full-reads
 
 is-full-requires : tie.Need-is-full-requires
 is-full-requires c κs = search needs

@@ -1,18 +1,14 @@
 use mathlib.Core.Path.{_≡_, sym, ap, _∙_}
 use mathlib.Core.List.{[], _∷_}
+use borrow.Author.Needs.{needs}
 use Rattle.refusals.specs.declared.Code.{Code}
 use Rattle.refusals.specs.Codes.{accepted, codeOf, verdictCode}
 use Rattle.refusals.proofs.CodeLaws.{refused-keeps, accepted-takes}
 use Rattle.rounds.specs.Ledger.{Frame, frame}
 use Rattle.rounds.specs.Rounds.{stepCode, after}
 use Rattle.rounds.proofs.CheckLaws.{frame-known}
-use borrow.Author.Needs.{needs}
 use Rattle.rounds.proofs.Round.count.Statement.{statement}
 use Rattle.rounds.proofs.Round.count.Tie as tie
-use Rattle.rounds.proofs.Round.count.Reads as reads
-use Rattle.rounds.proofs.Round.count.Lts as lts
-use Rattle.rounds.proofs.Round.check_frame.Reads as check-frame-reads
-use Rattle.rounds.proofs.Round.counted.Reads as counted-reads
 
 check-frame-requires : tie.Need-check-frame-requires
 check-frame-requires c κs = c .before .pre

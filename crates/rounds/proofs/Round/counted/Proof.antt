@@ -1,19 +1,15 @@
 use Prim.Native.Nat.{ℕ}
-use mathlib.Core.Bool.{true}
-use lib.ListN.{length, take}
-use Rattle.arithmetic.specs.Primes.{allBelow}
-use mathlib.Core.Path.{_≡_, sym, ap, _∙_}
+use mathlib.Core.Path.{ap, _∙_}
 use mathlib.Core.List.{[]}
 use native.Mathlib.Omega.{arith}
+use lib.ListN.{take}
+use Rattle.arithmetic.specs.Primes.{allBelow}
 use Rattle.arithmetic.proofs.PrimeLaws.{prime-pos}
 use Rattle.rounds.specs.Ledger.{frame}
 use Rattle.rounds.proofs.CheckLaws.{Passed, frame-known}
-use Rattle.rounds.proofs.StepLaws.{bit-fits, counted-is}
+use Rattle.rounds.proofs.StepLaws.{counted-is}
 use Rattle.rounds.proofs.Round.counted.Statement.{statement}
 use Rattle.rounds.proofs.Round.counted.Tie as tie
-use Rattle.rounds.proofs.Round.counted.Reads as reads
-use Rattle.rounds.proofs.Round.counted.Lts as lts
-use Rattle.rounds.proofs.Round.add_block.Reads as add-block-reads
 
 -- what the checks found
 passed : (c : tie.Start) → Passed (c .args .senders) (c .args .self) [] (frame (c .args .sender) (c .args .number) (c .args .block .now))

@@ -1,10 +1,8 @@
 use native.Mathlib.Omega.{arith}
-use Rattle.rounds.proofs.StepLaws.{sum-over, sum-under}
 use borrow.Author.Needs.{needs}
+use Rattle.rounds.proofs.StepLaws.{sum-over, sum-under}
 use Rattle.rounds.proofs.machine.add_reduced.Statement.{statement}
 use Rattle.rounds.proofs.machine.add_reduced.Tie as tie
-use Rattle.rounds.proofs.machine.add_reduced.Reads as reads
-use Rattle.rounds.proofs.machine.add_reduced.Lts as lts
 
 add-sum : tie.Need-add-sum
 add-sum c = search needs

@@ -1,8 +1,6 @@
 use borrow.Author.Tests.{le-leb, lt-leb}
 use Rattle.rounds.proofs.machine.length_fits.Statement.{statement}
 use Rattle.rounds.proofs.machine.length_fits.Tie as tie
-use Rattle.rounds.proofs.machine.length_fits.Reads as reads
-use Rattle.rounds.proofs.machine.length_fits.Lts as lts
 
 returns : tie.Need-returns
 returns c = simp (lt-leb _ _ (c .if1 .taken))
