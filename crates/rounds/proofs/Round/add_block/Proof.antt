@@ -46,13 +46,13 @@ add-reduced-requires c κs =
     let r : Round = a .args .t1 in
     let bl : List ℕ = a .args .block .now in
     let h : s .p < length bl = omega (arith, c .before .before .loop-test .taken) in
-    let few : length bl ≤ 64 = a .pre .0 in
+    let few : length bl ≤ 64 = a .pre .few in
     let e : s .self ≡ withSums r (addedTo (r .q) (s .p) (r .sums) bl) = s .inv .2 in
     let m : at (s .self .sums) (s .p) ≡ at (take (length bl) (r .sums)) (s .p) =
     ap (λ (w : Round). at (w .sums) (s .p)) e ∙ added-at (r .q) (r .sums) bl (s .p) (omega arith) ∙ sym (getD-take (length bl) (r .sums) (s .p) 0 h) in
     let k : s .self .q ≡ r .q = ap (λ (w : Round). w .q) e in (
-      omega (arith, m, k, below-at (r .q) (take (length bl) (r .sums)) (a .pre .1) (true→T _ (a .pre .2)) (s .p)),
-      omega (arith, k, below-at (r .q) bl (a .pre .1) (true→T _ (a .pre .3)) (s .p)),
+      omega (arith, m, k, below-at (r .q) (take (length bl) (r .sums)) (a .pre .positive) (true→T _ (a .pre .low)) (s .p)),
+      omega (arith, k, below-at (r .q) bl (a .pre .positive) (true→T _ (a .pre .below)) (s .p)),
     )
 
 mul-self : tie.Need-mul-self Inv-loop μ-loop
@@ -75,13 +75,13 @@ loop-again c =
     let bl : List ℕ = a .args .block .now in
     let S : List ℕ = addedTo (r .q) (s .p) (r .sums) bl in
     let h : s .p < length bl = omega (arith, c .before .before .before .loop-test .taken) in
-    let few : length bl ≤ 64 = a .pre .0 in
+    let few : length bl ≤ 64 = a .pre .few in
     let e : s .self ≡ withSums r S = s .inv .2 in
     let x : c .add-reduced .result ≡ sumOf (r .q) (at S (s .p)) (at bl (s .p)) =
     c .add-reduced .ensures ∙ ap (λ (w : Round). sumOf (w .q) (at (w .sums) (s .p)) (at bl (s .p))) e in (
       omega arith,
       s .inv .1,
-      ap₂ (λ (w : Round) (y : ℕ). withSums w (set (w .sums) (s .p) y)) e x ∙ ap (withSums r) (added-next (r .q) (r .sums) bl (s .p) (omega arith) (a .pre .1)),
+      ap₂ (λ (w : Round) (y : ℕ). withSums w (set (w .sums) (s .p) y)) e x ∙ ap (withSums r) (added-next (r .q) (r .sums) bl (s .p) (omega arith) (a .pre .positive)),
     )
 
 returns : tie.Need-returns Inv-loop μ-loop

@@ -29,14 +29,14 @@ check-own-requires c κs =
 returns : tie.Need-returns
 returns c =
     let a = c .before .before .before .before .before .args in
-    first-refuses (stateChecks (a .senders) (a .known) (a .self)) (ownChecks (a .senders) (a .known) (a .self) (frame (a .sender) (a .number) (a .block .now))) (c .before .refusal .given .0 .0)
+    first-refuses (stateChecks (a .senders) (a .known) (a .self)) (ownChecks (a .senders) (a .self) (frame (a .sender) (a .number) (a .block .now))) (c .before .refusal .given .0 .0)
     (sym (ap verdictCode (c .before .refusal .given .1)) ∙ c .before .before .before .check-state .ensures)
 
 returns-2 : tie.Need-returns-2
 returns-2 c =
     let a = c .before .before .before .before .before .args in
     c .check-own .ensures
-    ∙ rest-decides (stateChecks (a .senders) (a .known) (a .self)) (ownChecks (a .senders) (a .known) (a .self) (frame (a .sender) (a .number) (a .block .now))) tt (told (c .before))
+    ∙ rest-decides (stateChecks (a .senders) (a .known) (a .self)) (ownChecks (a .senders) (a .self) (frame (a .sender) (a .number) (a .block .now))) tt (told (c .before))
 
 pub check-frame-spec : {M : Type 1} → statement M
 check-frame-spec =

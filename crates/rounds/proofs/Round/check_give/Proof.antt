@@ -30,13 +30,13 @@ check-lent-requires c κs =
 returns : tie.Need-returns
 returns c =
     let a = c .before .before .before .before .before .args in
-    first-refuses (stateChecks (a .senders) (a .known) (a .self)) (lentChecks (a .senders) (a .known) (a .self) (length (a .out .now))) (c .before .refusal .given .0 .0)
+    first-refuses (stateChecks (a .senders) (a .known) (a .self)) (lentChecks (a .senders) (a .self) (length (a .out .now))) (c .before .refusal .given .0 .0)
     (sym (ap verdictCode (c .before .refusal .given .1)) ∙ c .before .before .before .check-state .ensures)
 
 returns-2 : tie.Need-returns-2
 returns-2 c =
     let a = c .before .before .before .before .before .args in
-    c .check-lent .ensures ∙ rest-decides (stateChecks (a .senders) (a .known) (a .self)) (lentChecks (a .senders) (a .known) (a .self) (length (a .out .now))) tt (told (c .before))
+    c .check-lent .ensures ∙ rest-decides (stateChecks (a .senders) (a .known) (a .self)) (lentChecks (a .senders) (a .self) (length (a .out .now))) tt (told (c .before))
 
 pub check-give-spec : {M : Type 1} → statement M
 check-give-spec =

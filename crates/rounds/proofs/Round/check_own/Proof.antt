@@ -20,7 +20,7 @@ one-of-requires c κs = search needs
 
 -- the code of the checks from number n on
 abbrev code : ℕ → tie.Start → Code
-code n s = firstOf (drop n (ownChecks (s .args .senders) (s .args .known) (s .args .self) (frame (s .args .sender) (s .args .number) (s .args .block .now))))
+code n s = firstOf (drop n (ownChecks (s .args .senders) (s .args .self) (frame (s .args .sender) (s .args .number) (s .args .block .now))))
 
 returns : tie.Need-returns
 returns c = sym (simp (sym (c .before .one-of .ensures) ∙ not-true _ (c .if1 .taken)))
