@@ -1,8 +1,8 @@
 -- The checks of a step, part by part: which part decides, and what is known of a state that passed.
 use Prim.Native.Nat.{ℕ, suc, _-_, _≤_, _<_, _^_}
-use mathlib.Core.Path.{_≡_, refl, sym, ap, _∙_}
+use mathlib.Core.Path.{_≡_, sym}
 use mathlib.Core.Bool.{Bool, true, false, cond, not, _&&_, _||_}
-use mathlib.Core.List.{List, [], _∷_, _++_}
+use mathlib.Core.List.{List}
 use native.Mathlib.Omega.{arith}
 use lib.Dec.{leb, ltb, eqb, leb→le}
 use lib.ListN.{length, take, drop}

@@ -1,6 +1,6 @@
 -- A round is its ledger: for every state that is handed in, good or bad, and for all frames in any order, each answer and the round after them are
 -- those of the ledger, and so is the answer when sums are wanted.
-use Prim.Native.Nat.{ℕ, zero, suc, _+_, _-_, _%_, _^_, _≤_, _<_}
+use Prim.Native.Nat.{ℕ, suc, _+_, _-_, _%_, _^_, _≤_, _<_}
 use mathlib.Core.Path.{_≡_, refl, sym, ap, ap₂, _∙_, subst}
 use mathlib.Core.Bool.{Bool, true, false, cond, not, _&&_, _||_}
 use mathlib.Core.List.{List, [], _∷_, _++_}
@@ -14,7 +14,6 @@ use borrow.Author.Tests.{not-false, eq-eqb, ne-eqb, lt-ltb, le-ltb}
 use Rattle.refusals.specs.declared.Code.{Code}
 use Rattle.refusals.specs.Codes.{code, accepted, firstOf, ifAccepted}
 use Rattle.refusals.proofs.CodeLaws.{numbered, none-holds}
-use Rattle.arithmetic.specs.Search.{allTo}
 use Rattle.arithmetic.specs.Primes.{allBelow}
 use Rattle.arithmetic.proofs.Searches.{T→true, true→T, T-and}
 use Rattle.arithmetic.proofs.Congruence.{c-refl, c-add, of-rem, to-mod}

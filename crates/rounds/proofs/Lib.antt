@@ -6,4 +6,5 @@ mod StepLaws
 pub mod LedgerLaws
 pub mod RoundLaws
 pub mod Equations
+pub mod Runs
 pub mod Totals

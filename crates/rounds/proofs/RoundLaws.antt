@@ -6,9 +6,9 @@ use mathlib.Core.Bool.{Bool, true, false, cond, not, _&&_, _||_}
 use mathlib.Core.Logic.{_≢_}
 use mathlib.Core.List.{List, [], _∷_, _++_}
 use native.Mathlib.Nat.{zero-add, lt-suc-self, not-suc-le-zero}
-use native.Mathlib.Decide.{ℕ-discrete, decLt}
+use native.Mathlib.Decide.{ℕ-discrete}
 use native.Mathlib.Omega.{arith}
-use lib.Dec.{T, ltb, eqb}
+use lib.Dec.{ltb, eqb}
 use lib.ListN.{length, take, drop, replicate}
 use lib.Pow.{pow-pos}
 use lib.Seq.{getD-take, getD-drop, length-take-le}
@@ -27,7 +27,7 @@ use Rattle.secrecy.proofs.ListLaws.{at-tab, tab-at, length-tab}
 use Rattle.vetting.proofs.Orders.{first-accepts, rest-decides}
 use Rattle.rounds.specs.declared.Round.{Round}
 use Rattle.rounds.specs.Ledger.{Frame, named, countedAt}
-use Rattle.rounds.specs.Rounds.{hasBit, sumsFit, openChecks, opened, stateChecks, hasReported, after, frameChecks, giveChecks, stepCode, runOf, noted, ledgerOf}
+use Rattle.rounds.specs.Rounds.{sumsFit, openChecks, opened, stateChecks, hasReported, frameChecks, giveChecks, stepCode, runOf, noted, ledgerOf}
 use Rattle.rounds.proofs.CheckLaws.{Opening, opening-known, Passed, frame-known}
 use Rattle.rounds.proofs.ReportedLaws.{no-bits}
 use Rattle.rounds.proofs.StepLaws.{all-cong, or-none}

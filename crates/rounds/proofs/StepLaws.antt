@@ -1,6 +1,6 @@
 -- What one step of a round comes to: symbols added without a division, and sums added to position by position.
-use Prim.Native.Nat.{ℕ, zero, suc, _+_, _-_, _*_, _%_, _^_, _≤_, _<_}
-use mathlib.Core.Path.{_≡_, refl, sym, ap, ap₂, _∙_, subst}
+use Prim.Native.Nat.{ℕ, zero, suc, _+_, _-_, _%_, _^_, _≤_, _<_}
+use mathlib.Core.Path.{_≡_, refl, sym, ap, ap₂, _∙_}
 use mathlib.Core.Bool.{Bool, true, false, cond, _&&_, _||_}
 use mathlib.Core.Logic.{_≢_}
 use mathlib.Core.List.{List, [], _∷_, _++_}
@@ -11,23 +11,21 @@ use native.Mathlib.Omega.{arith}
 use lib.Dec.{ltb}
 use lib.ListN.{length, take, drop, set, length-set}
 use lib.Seq.{getD-drop, getD-set-same, getD-set-other, take-suc, take-suc-set}
-use lib.Bits.{bitOr}
 use borrow.Author.Tests.{lt-ltb, le-ltb}
 use Rattle.arithmetic.specs.Search.{allTo}
 use Rattle.arithmetic.specs.Primes.{allBelow}
 use Rattle.arithmetic.specs.Field.{sumOf}
 use Rattle.arithmetic.proofs.Congruence.{residue-mod}
+use Rattle.arithmetic.proofs.Searches.{true→T}
+use Rattle.arithmetic.proofs.PrimeLaws.{prime-pos, below-at}
 use Rattle.matrices.specs.Linear.{at}
 use Rattle.secrecy.specs.Lists.{tab}
 use Rattle.secrecy.proofs.ListLaws.{at-tab, length-tab, tab-at, tab-cong}
-use Rattle.arithmetic.proofs.Searches.{true→T}
-use Rattle.arithmetic.proofs.PrimeLaws.{below-at}
 use Rattle.rounds.specs.declared.Round.{Round}
 use Rattle.rounds.specs.Ledger.{Frame, named, bitsOf, countedAt}
 use Rattle.rounds.specs.Rounds.{hasBit, hasReported, after}
-use Rattle.rounds.specs.Machine.{withSums, addedTo}
-use Rattle.rounds.proofs.CheckLaws.{Good, Passed}
-use Rattle.rounds.proofs.ReportedLaws.{set-bit}
+use Rattle.rounds.specs.Machine.{Countable, withSums, withReported, addedTo, countedRound}
+use Rattle.rounds.proofs.CheckLaws.{Passed}
 
 -- ---- everyone has reported, where the round has no ledger
 
@@ -105,18 +103,25 @@ past-zero L sums e p h =
     let i : at sums (L + (p - L)) ≡ at sums p = ap (at sums) (omega arith) in
     omega arith
 
-module _ (senders : ℕ) (known : Bool) (R : Round) (f : Frame) (few : senders ≤ 8) (p : Passed senders R [] f) where
-  abbrev withBit : ℕ → Round
-  withBit n = record { clusters = R .clusters; size = R .size; q = R .q; length = R .length; number = R .number; reported = n; sums = R .sums }
+module _ (senders : ℕ) (known : Bool) (R : Round) (f : Frame) (p : Passed senders R [] f) where
+  pub can-count : senders ≤ 8 → Countable R (f .sender) (f .block)
+  unfolding named
+  can-count few =
+      record {
+        some = p .sender-some;
+        fits = omega (arith, p .sender-few);
+        new = sym (or-none (hasBit (R .reported) (f .sender - 1))) ∙ p .new;
+        addable = record {
+          few = omega (arith, p .long, p .good .opening .few-length);
+          positive = prime-pos (p .good .opening .prime);
+          low = ap (λ (n : ℕ). allBelow (R .q) (take n (R .sums))) (p .long) ∙ p .good .low;
+          below = p .below;
+        };
+      }
 
-  pub bit-fits : f .sender - 1 < 16
-  bit-fits = omega (arith, p .sender-some, p .sender-few)
-
-  one-bit : bitOr (R .reported) (1 * 2 ^ (f .sender - 1) % 2 ^ 16) ≡ R .reported + bitsOf (f ∷ [])
-  unfolding named bitsOf
-  one-bit =
-      set-bit (R .reported) (f .sender - 1) bit-fits (sym (or-none (hasBit (R .reported) (f .sender - 1))) ∙ p .new)
-      ∙ ap (λ (z : ℕ). R .reported + z) (sym (add-zero (2 ^ (f .sender - 1))))
+  one-bit : R .reported + 2 ^ (f .sender - 1) ≡ R .reported + bitsOf (f ∷ [])
+  unfolding bitsOf
+  one-bit = ap (λ (z : ℕ). R .reported + z) (sym (add-zero (2 ^ (f .sender - 1))))
 
   one-block : addedTo (R .q) (length (f .block)) (R .sums) (f .block) ≡ after senders known R (f ∷ []) .sums
   unfolding addedTo countedAt
@@ -128,5 +133,5 @@ module _ (senders : ℕ) (known : Bool) (R : Round) (f : Frame) (few : senders �
           rw (lt-ltb k (R .length) h) (ap (λ (z : ℕ). (at (R .sums) k + z) % R .q) (sym (add-zero (at (f .block) k))))
       go k (no h) = rw (le-ltb k (R .length) (omega arith)) (past-zero (R .length) (R .sums) (p .good .high) k (omega arith))
 
-  pub counted-is : withSums (withBit (bitOr (R .reported) (1 * 2 ^ (f .sender - 1) % 2 ^ 16))) (addedTo (R .q) (length (f .block)) (R .sums) (f .block)) ≡ after senders known R (f ∷ [])
-  counted-is = ap₂ (λ (n : ℕ) (S : List ℕ). withSums (withBit n) S) one-bit one-block
+  pub counted-is : countedRound R (f .sender) (f .block) ≡ after senders known R (f ∷ [])
+  counted-is = ap₂ (λ (n : ℕ) (S : List ℕ). withSums (withReported R n) S) one-bit one-block

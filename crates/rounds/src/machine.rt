@@ -2,17 +2,16 @@
 // plan.
 ghost use mathlib.Core.Path.{_≡_};
 ghost use mathlib.Core.Bool.{true};
-ghost use mathlib.Core.List.{[], _∷_};
+ghost use mathlib.Core.List.{[]};
 ghost use Prim.Native.Nat.{_-_, _^_, _<_, _≤_};
 ghost use lib.ListN.{length, take};
-ghost use Rattle.refusals.specs.Codes.{accepted, firstOf, ifAccepted, verdictCode};
+ghost use Rattle.refusals.specs.Codes.{firstOf, ifAccepted, verdictCode};
 ghost use Rattle.arithmetic.specs.Search.{allTo};
-ghost use Rattle.arithmetic.specs.Primes.{allBelow};
 ghost use Rattle.matrices.specs.Linear.{zeros};
 ghost use Rattle.vetting.specs.Plans.{countsFit};
 ghost use Rattle.rounds.specs.Ledger.{frame};
-ghost use Rattle.rounds.specs.Rounds.{hasBit, oneOf, openChecks, opened, noRound, stateChecks, after, giveChecks, stepCode, stepped};
-ghost use Rattle.rounds.specs.Machine.{contentChecks, ownChecks, lentChecks, withSums, addedTo};
+ghost use Rattle.rounds.specs.Rounds.{hasBit, oneOf, openChecks, opened, noRound, stateChecks, giveChecks, stepCode, stepped};
+ghost use Rattle.rounds.specs.Machine.{contentChecks, ownChecks, lentChecks, Addable, Countable, withSums, addedTo, countedRound};
 use crate::Round;
 use crate::Step;
 use crate::blocks::add_reduced;
@@ -137,16 +136,9 @@ impl Round {
     }
 
     // The frame itself: 8, 4, 3, 14, 11.
-    fn check_own(
-        self,
-        senders: usize,
-        known: bool,
-        sender: usize,
-        number: u32,
-        block: &[Symbol],
-    ) -> Verdict
+    fn check_own(self, senders: usize, sender: usize, number: u32, block: &[Symbol]) -> Verdict
         requires { ⌜ senders ≤ 8 ⌝ }
-        ensures { λ r. ⌜ verdictCode r ≡ firstOf (ownChecks senders known self (frame sender number (now (block .entry)))) ⌝ }
+        ensures { λ r. ⌜ verdictCode r ≡ firstOf (ownChecks senders self (frame sender number (now (block .entry)))) ⌝ }
     {
         if !one_of(senders, sender) {
             return Verdict::Refused(Refusal::UnknownNumber);
@@ -179,13 +171,13 @@ impl Round {
     {
         match self.check_state(senders, known) {
             Verdict::Refused(refusal) => Verdict::Refused(refusal),
-            Verdict::Accepted => self.check_own(senders, known, sender, number, block),
+            Verdict::Accepted => self.check_own(senders, sender, number, block),
         }
     }
 
     // Sums and block are below q, position by position.
     fn add_block(mut self, block: &[Symbol]) -> Round
-        requires { ⌜ (length (now block) ≤ 64) × (0 < self .q) × (allBelow (self .q) (take (length (now block)) (self .sums)) ≡ true) × (allBelow (self .q) (now block) ≡ true) ⌝ }
+        requires { ⌜ Addable self (now block) ⌝ }
         ensures { λ r. ⌜ r ≡ withSums self (addedTo (self .q) (length (now (block .entry))) (self .sums) (now (block .entry))) ⌝ }
     {
         let mut p = 0;
@@ -197,16 +189,9 @@ impl Round {
     }
 
     // The sender's bit, and the block's symbols.
-    fn counted(
-        mut self,
-        senders: usize,
-        known: bool,
-        sender: usize,
-        number: u32,
-        block: &[Symbol],
-    ) -> Round
-        requires { ⌜ (senders ≤ 8) × (accepted ≡ stepCode senders known self (frame sender number (now block))) ⌝ }
-        ensures { λ r. ⌜ r ≡ after senders known self (frame sender number (now (block .entry)) ∷ []) ⌝ }
+    fn counted(mut self, sender: usize, block: &[Symbol]) -> Round
+        requires { ⌜ Countable self sender (now block) ⌝ }
+        ensures { λ r. ⌜ r ≡ countedRound self sender (now (block .entry)) ⌝ }
     {
         let bit = (sender - 1) as u32;
         self.reported = self.reported | (1 << bit);
@@ -232,7 +217,7 @@ impl Round {
             },
             Verdict::Accepted => Step {
                 answer: Verdict::Accepted,
-                round: self.counted(senders, known, sender, number, block),
+                round: self.counted(sender, block),
             },
         }
     }
@@ -246,9 +231,9 @@ impl Round {
     }
 
     // A lent buffer: 12, 4.
-    fn check_lent(self, senders: usize, known: bool, room: usize) -> Verdict
+    fn check_lent(self, senders: usize, room: usize) -> Verdict
         requires { ⌜ (senders ≤ 8) × (self .reported < 2 ^ senders) ⌝ }
-        ensures { λ r. ⌜ verdictCode r ≡ firstOf (lentChecks senders known self room) ⌝ }
+        ensures { λ r. ⌜ verdictCode r ≡ firstOf (lentChecks senders self room) ⌝ }
     {
         if !self.is_full(senders) {
             return Verdict::Refused(Refusal::NotFull);
@@ -265,7 +250,7 @@ impl Round {
     {
         match self.check_state(senders, known) {
             Verdict::Refused(refusal) => Verdict::Refused(refusal),
-            Verdict::Accepted => self.check_lent(senders, known, out.len()),
+            Verdict::Accepted => self.check_lent(senders, out.len()),
         }
     }
 

@@ -1,15 +1,11 @@
-use mathlib.Core.Path.{_≡_, sym, ap, _∙_}
+use mathlib.Core.Path.{ap, _∙_}
 use mathlib.Core.Bool.{Bool}
+use borrow.Author.Needs.{needs}
 use Rattle.vetting.proofs.PlanBounds.{counts-known}
 use Rattle.rounds.specs.Ledger.{frame}
 use Rattle.rounds.specs.Rounds.{stepCode, stepped, relayRound}
-use borrow.Author.Needs.{needs}
 use Rattle.rounds.proofs.RelayRound.count.Statement.{statement}
 use Rattle.rounds.proofs.RelayRound.count.Tie as tie
-use Rattle.rounds.proofs.RelayRound.count.Reads as reads
-use Rattle.rounds.proofs.RelayRound.count.Lts as lts
-use Rattle.rounds.proofs.RelayRound.is_known.Reads as is-known-reads
-use Rattle.rounds.proofs.Round.count.Reads as count-reads
 
 is-known-requires : tie.Need-is-known-requires
 is-known-requires c κs = search needs

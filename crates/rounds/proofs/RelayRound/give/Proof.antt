@@ -1,18 +1,14 @@
-use mathlib.Core.Path.{_≡_, refl, sym, ap, _∙_}
+use Prim.Native.Nat.{ℕ}
+use mathlib.Core.Path.{refl, ap, _∙_}
 use mathlib.Core.Bool.{Bool}
 use mathlib.Core.List.{List, []}
-use Prim.Native.Nat.{ℕ}
 use lib.ListN.{take}
+use borrow.Author.Needs.{needs}
 use Rattle.refusals.specs.Codes.{firstOf, ifAccepted}
 use Rattle.vetting.proofs.PlanBounds.{counts-known}
 use Rattle.rounds.specs.Rounds.{giveChecks}
-use borrow.Author.Needs.{needs}
 use Rattle.rounds.proofs.RelayRound.give.Statement.{statement}
 use Rattle.rounds.proofs.RelayRound.give.Tie as tie
-use Rattle.rounds.proofs.RelayRound.give.Reads as reads
-use Rattle.rounds.proofs.RelayRound.give.Lts as lts
-use Rattle.rounds.proofs.RelayRound.is_known.Reads as is-known-reads
-use Rattle.rounds.proofs.Round.give.Reads as give-reads
 
 is-known-requires : tie.Need-is-known-requires
 is-known-requires c κs = search needs

@@ -1,17 +1,13 @@
 use mathlib.Core.Path.{_≡_, sym, ap, _∙_}
 use mathlib.Core.Bool.{Bool}
+use borrow.Author.Needs.{needs}
 use Rattle.refusals.specs.declared.Code.{Code}
 use Rattle.refusals.specs.Codes.{accepted, codeOf, verdictCode, firstOf, ifAccepted}
 use Rattle.refusals.proofs.CodeLaws.{refused-keeps, accepted-takes}
 use Rattle.rounds.specs.declared.Round.{Round}
 use Rattle.rounds.specs.Rounds.{oneOf, openChecks, opened, noRound, relayRound}
-use borrow.Author.Needs.{needs}
 use Rattle.rounds.proofs.RelayRound.open.Statement.{statement}
 use Rattle.rounds.proofs.RelayRound.open.Tie as tie
-use Rattle.rounds.proofs.RelayRound.open.Reads as reads
-use Rattle.rounds.proofs.RelayRound.open.Lts as lts
-use Rattle.rounds.proofs.Round.open.Reads as open-reads
-use Rattle.rounds.proofs.machine.one_of.Reads as one-of-reads
 
 one-of-requires : tie.Need-one-of-requires
 one-of-requires c κs = search needs

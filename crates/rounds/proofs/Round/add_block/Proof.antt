@@ -1,25 +1,19 @@
-use mathlib.Core.Path.{subst}
-use mathlib.Core.Bool.{true}
-use lib.ListN.{take}
+use Prim.Native.Nat.{ℕ, _-_, _≤_, _<_}
+use mathlib.Core.Path.{_≡_, sym, ap, ap₂, _∙_}
+use mathlib.Core.List.{List}
+use native.Mathlib.Omega.{arith}
+use lib.ListN.{take, length, set}
 use lib.Seq.{getD-take}
-use Rattle.arithmetic.specs.Primes.{allBelow}
+use borrow.Author.Needs.{needs}
 use Rattle.arithmetic.proofs.Searches.{true→T}
 use Rattle.arithmetic.proofs.PrimeLaws.{below-at}
-use Rattle.rounds.proofs.StepLaws.{added-none, added-at, added-next}
-use borrow.Author.Needs.{needs}
-use mathlib.Core.Path.{_≡_, refl, sym, ap, ap₂, _∙_}
-use mathlib.Core.List.{List}
-use Prim.Native.Nat.{ℕ, _+_, _-_, _≤_, _<_}
-use native.Mathlib.Omega.{arith}
-use lib.ListN.{length, set}
 use Rattle.arithmetic.specs.Field.{sumOf}
 use Rattle.matrices.specs.Linear.{at}
 use Rattle.rounds.specs.declared.Round.{Round}
 use Rattle.rounds.specs.Machine.{withSums, addedTo}
+use Rattle.rounds.proofs.StepLaws.{added-none, added-at, added-next}
 use Rattle.rounds.proofs.Round.add_block.Statement.{statement}
 use Rattle.rounds.proofs.Round.add_block.Tie as tie
-use Rattle.rounds.proofs.Round.add_block.Reads as reads
-use Rattle.rounds.proofs.Round.add_block.Lts as lts
 
 abbrev Inv-loop : tie.InvT-loop
 Inv-loop block self₀ p₀ self p = (p ≤ length block) × (length (self₀ .sums) ≡ 64) × (self ≡ withSums self₀ (addedTo (self₀ .q) p (self₀ .sums) block))
@@ -51,14 +45,14 @@ add-reduced-requires c κs =
     let a = c .before .before .before .before .before in
     let r : Round = a .args .t1 in
     let bl : List ℕ = a .args .block .now in
-    let h : s .p < length bl = c .before .before .loop-test .taken in
-    let few : length bl ≤ 64 = a .pre .0 in
+    let h : s .p < length bl = omega (arith, c .before .before .loop-test .taken) in
+    let few : length bl ≤ 64 = a .pre .few in
     let e : s .self ≡ withSums r (addedTo (r .q) (s .p) (r .sums) bl) = s .inv .2 in
     let m : at (s .self .sums) (s .p) ≡ at (take (length bl) (r .sums)) (s .p) =
     ap (λ (w : Round). at (w .sums) (s .p)) e ∙ added-at (r .q) (r .sums) bl (s .p) (omega arith) ∙ sym (getD-take (length bl) (r .sums) (s .p) 0 h) in
     let k : s .self .q ≡ r .q = ap (λ (w : Round). w .q) e in (
-      omega (arith, m, k, below-at (r .q) (take (length bl) (r .sums)) (a .pre .1) (true→T _ (a .pre .2)) (s .p)),
-      omega (arith, k, below-at (r .q) bl (a .pre .1) (true→T _ (a .pre .3)) (s .p)),
+      omega (arith, m, k, below-at (r .q) (take (length bl) (r .sums)) (a .pre .positive) (true→T _ (a .pre .low)) (s .p)),
+      omega (arith, k, below-at (r .q) bl (a .pre .positive) (true→T _ (a .pre .below)) (s .p)),
     )
 
 mul-self : tie.Need-mul-self Inv-loop μ-loop
@@ -80,14 +74,14 @@ loop-again c =
     let r : Round = a .args .t1 in
     let bl : List ℕ = a .args .block .now in
     let S : List ℕ = addedTo (r .q) (s .p) (r .sums) bl in
-    let h : s .p < length bl = c .before .before .before .loop-test .taken in
-    let few : length bl ≤ 64 = a .pre .0 in
+    let h : s .p < length bl = omega (arith, c .before .before .before .loop-test .taken) in
+    let few : length bl ≤ 64 = a .pre .few in
     let e : s .self ≡ withSums r S = s .inv .2 in
     let x : c .add-reduced .result ≡ sumOf (r .q) (at S (s .p)) (at bl (s .p)) =
     c .add-reduced .ensures ∙ ap (λ (w : Round). sumOf (w .q) (at (w .sums) (s .p)) (at bl (s .p))) e in (
       omega arith,
       s .inv .1,
-      ap₂ (λ (w : Round) (y : ℕ). withSums w (set (w .sums) (s .p) y)) e x ∙ ap (withSums r) (added-next (r .q) (r .sums) bl (s .p) (omega arith) (a .pre .1)),
+      ap₂ (λ (w : Round) (y : ℕ). withSums w (set (w .sums) (s .p) y)) e x ∙ ap (withSums r) (added-next (r .q) (r .sums) bl (s .p) (omega arith) (a .pre .positive)),
     )
 
 returns : tie.Need-returns Inv-loop μ-loop

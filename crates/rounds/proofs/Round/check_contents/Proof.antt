@@ -1,24 +1,14 @@
-use borrow.Author.Tests.{not-true, not-false}
-use mathlib.Core.Path.{sym, ap, _∙_}
-use mathlib.Core.Bool.{Bool, true, false, _&&_, and-false}
-use mathlib.Core.List.{List}
-use Prim.Native.Nat.{_-_, _^_}
+use Prim.Native.Nat.{_-_}
+use mathlib.Core.Path.{sym, ap, _∙_, _≡_}
 use native.Mathlib.Omega.{arith}
-use lib.Dec.{ltb}
-use lib.ListN.{take, drop, length-drop}
+use lib.ListN.{take, drop, length-drop, length}
 use lib.Seq.{take-all, length-take-le}
-use Rattle.arithmetic.specs.Primes.{allBelow}
-use Rattle.rounds.specs.Rounds.{sumsFit}
-use Rattle.rounds.proofs.ReportedLaws.{bits-above, bits-below}
-use mathlib.Core.Path.{_≡_}
-use lib.ListN.{length}
-use Prim.Native.Nat.{ℕ}
+use borrow.Author.Tests.{not-true, not-false}
 use borrow.Author.Needs.{needs}
+use Rattle.arithmetic.specs.Primes.{allBelow}
+use Rattle.rounds.proofs.ReportedLaws.{bits-above, bits-below}
 use Rattle.rounds.proofs.Round.check_contents.Statement.{statement}
 use Rattle.rounds.proofs.Round.check_contents.Tie as tie
-use Rattle.rounds.proofs.Round.check_contents.Reads as reads
-use Rattle.rounds.proofs.Round.check_contents.Lts as lts
-use Rattle.arithmetic.proofs.all_below.Reads as all-below-reads
 
 cast-if1 : tie.Need-cast-if1
 cast-if1 c = search needs

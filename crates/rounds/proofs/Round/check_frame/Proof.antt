@@ -1,17 +1,13 @@
 use mathlib.Core.Path.{_≡_, sym, ap, _∙_}
+use borrow.Author.Needs.{needs}
 use Rattle.refusals.specs.Codes.{accepted, verdictCode, firstOf}
 use Rattle.vetting.proofs.Orders.{first-refuses, rest-decides}
 use Rattle.rounds.specs.Ledger.{frame}
 use Rattle.rounds.specs.Rounds.{stateChecks}
 use Rattle.rounds.specs.Machine.{ownChecks}
 use Rattle.rounds.proofs.CheckLaws.{good-state}
-use borrow.Author.Needs.{needs}
 use Rattle.rounds.proofs.Round.check_frame.Statement.{statement}
 use Rattle.rounds.proofs.Round.check_frame.Tie as tie
-use Rattle.rounds.proofs.Round.check_frame.Reads as reads
-use Rattle.rounds.proofs.Round.check_frame.Lts as lts
-use Rattle.rounds.proofs.Round.check_own.Reads as check-own-reads
-use Rattle.rounds.proofs.Round.check_state.Reads as check-state-reads
 
 check-state-requires : tie.Need-check-state-requires
 check-state-requires c κs = c .before .pre
@@ -33,14 +29,14 @@ check-own-requires c κs =
 returns : tie.Need-returns
 returns c =
     let a = c .before .before .before .before .before .args in
-    first-refuses (stateChecks (a .senders) (a .known) (a .self)) (ownChecks (a .senders) (a .known) (a .self) (frame (a .sender) (a .number) (a .block .now))) (c .before .refusal .given .0 .0)
+    first-refuses (stateChecks (a .senders) (a .known) (a .self)) (ownChecks (a .senders) (a .self) (frame (a .sender) (a .number) (a .block .now))) (c .before .refusal .given .0 .0)
     (sym (ap verdictCode (c .before .refusal .given .1)) ∙ c .before .before .before .check-state .ensures)
 
 returns-2 : tie.Need-returns-2
 returns-2 c =
     let a = c .before .before .before .before .before .args in
     c .check-own .ensures
-    ∙ rest-decides (stateChecks (a .senders) (a .known) (a .self)) (ownChecks (a .senders) (a .known) (a .self) (frame (a .sender) (a .number) (a .block .now))) tt (told (c .before))
+    ∙ rest-decides (stateChecks (a .senders) (a .known) (a .self)) (ownChecks (a .senders) (a .self) (frame (a .sender) (a .number) (a .block .now))) tt (told (c .before))
 
 pub check-frame-spec : {M : Type 1} → statement M
 check-frame-spec =

@@ -1,17 +1,13 @@
 use mathlib.Core.Path.{_≡_, sym, ap, _∙_}
 use lib.ListN.{length}
+use borrow.Author.Needs.{needs}
 use Rattle.refusals.specs.Codes.{accepted, verdictCode, firstOf}
 use Rattle.vetting.proofs.Orders.{first-refuses, rest-decides}
 use Rattle.rounds.specs.Rounds.{stateChecks}
 use Rattle.rounds.specs.Machine.{lentChecks}
 use Rattle.rounds.proofs.CheckLaws.{good-state}
-use borrow.Author.Needs.{needs}
 use Rattle.rounds.proofs.Round.check_give.Statement.{statement}
 use Rattle.rounds.proofs.Round.check_give.Tie as tie
-use Rattle.rounds.proofs.Round.check_give.Reads as reads
-use Rattle.rounds.proofs.Round.check_give.Lts as lts
-use Rattle.rounds.proofs.Round.check_lent.Reads as check-lent-reads
-use Rattle.rounds.proofs.Round.check_state.Reads as check-state-reads
 
 check-state-requires : tie.Need-check-state-requires
 check-state-requires c κs = c .before .pre
@@ -34,13 +30,13 @@ check-lent-requires c κs =
 returns : tie.Need-returns
 returns c =
     let a = c .before .before .before .before .before .args in
-    first-refuses (stateChecks (a .senders) (a .known) (a .self)) (lentChecks (a .senders) (a .known) (a .self) (length (a .out .now))) (c .before .refusal .given .0 .0)
+    first-refuses (stateChecks (a .senders) (a .known) (a .self)) (lentChecks (a .senders) (a .self) (length (a .out .now))) (c .before .refusal .given .0 .0)
     (sym (ap verdictCode (c .before .refusal .given .1)) ∙ c .before .before .before .check-state .ensures)
 
 returns-2 : tie.Need-returns-2
 returns-2 c =
     let a = c .before .before .before .before .before .args in
-    c .check-lent .ensures ∙ rest-decides (stateChecks (a .senders) (a .known) (a .self)) (lentChecks (a .senders) (a .known) (a .self) (length (a .out .now))) tt (told (c .before))
+    c .check-lent .ensures ∙ rest-decides (stateChecks (a .senders) (a .known) (a .self)) (lentChecks (a .senders) (a .self) (length (a .out .now))) tt (told (c .before))
 
 pub check-give-spec : {M : Type 1} → statement M
 check-give-spec =

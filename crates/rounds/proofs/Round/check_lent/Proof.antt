@@ -1,24 +1,22 @@
-use borrow.Author.Tests.{not-true, not-false, eq-eqb, ne-eqb}
+use Prim.Native.Nat.{suc}
+use mathlib.Core.Bool.{true}
 use mathlib.Core.Path.{_≡_, sym, _∙_}
 use mathlib.Core.List.{[]}
-use Prim.Native.Nat.{suc}
+use borrow.Author.Tests.{not-true, not-false, eq-eqb, ne-eqb}
+use borrow.Author.Needs.{needs}
 use Rattle.arithmetic.specs.Search.{allTo}
 use Rattle.rounds.specs.Rounds.{hasReported}
 use Rattle.rounds.proofs.StepLaws.{heard-bits}
-use borrow.Author.Needs.{needs}
 use Rattle.rounds.proofs.Round.check_lent.Statement.{statement}
 use Rattle.rounds.proofs.Round.check_lent.Tie as tie
-use Rattle.rounds.proofs.Round.check_lent.Reads as reads
-use Rattle.rounds.proofs.Round.check_lent.Lts as lts
-use Rattle.rounds.proofs.Round.is_full.Reads as is-full-reads
 
 is-full-requires : tie.Need-is-full-requires
 is-full-requires c κs = search needs
 
-full-is : (c : tie.After-is-full) → (let a = c .before .args in allTo (a .senders) (λ i. hasReported (a .senders) (a .known) (a .self) [] (suc i)) ≡ c .is-full .result)
+full-is : (c : tie.After-is-full) → (let a = c .before .args in allTo (a .senders) (λ i. hasReported (a .senders) true (a .self) [] (suc i)) ≡ c .is-full .result)
 full-is c =
     let a = c .before .args in
-    sym (c .is-full .ensures ∙ heard-bits (a .senders) (a .known) (a .self))
+    sym (c .is-full .ensures ∙ heard-bits (a .senders) true (a .self))
 
 returns : tie.Need-returns
 returns c = simp (full-is (c .before) ∙ not-true _ (c .if1 .taken))

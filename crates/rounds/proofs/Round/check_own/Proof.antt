@@ -1,33 +1,26 @@
-use Rattle.rounds.specs.Ledger.{named}
-use Prim.Native.Nat.{_≤_}
-use mathlib.Core.Bool.{true, _&&_}
-use lib.Dec.{leb, leb→le}
-use Rattle.arithmetic.proofs.Searches.{true→T, T-and}
-use Rattle.rounds.specs.Rounds.{oneOf}
-use borrow.Author.Tests.{not-true, not-false, eq-eqb, ne-eqb}
+use Prim.Native.Nat.{ℕ}
+use mathlib.Core.Bool.{true}
 use mathlib.Core.Path.{_≡_, sym, _∙_}
 use native.Mathlib.Omega.{arith}
+use lib.Dec.{leb, leb→le}
 use lib.ListN.{drop}
+use borrow.Author.Tests.{not-true, not-false, eq-eqb, ne-eqb}
+use borrow.Author.Needs.{needs}
 use Rattle.refusals.specs.declared.Code.{Code}
 use Rattle.refusals.specs.Codes.{firstOf}
-use Rattle.rounds.specs.Ledger.{frame}
+use Rattle.arithmetic.proofs.Searches.{true→T, T-and}
+use Rattle.rounds.specs.Ledger.{named, frame}
+use Rattle.rounds.specs.Rounds.{oneOf}
 use Rattle.rounds.specs.Machine.{ownChecks}
-use Prim.Native.Nat.{ℕ}
-use borrow.Author.Needs.{needs}
 use Rattle.rounds.proofs.Round.check_own.Statement.{statement}
 use Rattle.rounds.proofs.Round.check_own.Tie as tie
-use Rattle.rounds.proofs.Round.check_own.Reads as reads
-use Rattle.rounds.proofs.Round.check_own.Lts as lts
-use Rattle.arithmetic.proofs.all_below.Reads as all-below-reads
-use Rattle.rounds.proofs.Round.has_reported.Reads as has-reported-reads
-use Rattle.rounds.proofs.machine.one_of.Reads as one-of-reads
 
 one-of-requires : tie.Need-one-of-requires
 one-of-requires c κs = search needs
 
 -- the code of the checks from number n on
 abbrev code : ℕ → tie.Start → Code
-code n s = firstOf (drop n (ownChecks (s .args .senders) (s .args .known) (s .args .self) (frame (s .args .sender) (s .args .number) (s .args .block .now))))
+code n s = firstOf (drop n (ownChecks (s .args .senders) (s .args .self) (frame (s .args .sender) (s .args .number) (s .args .block .now))))
 
 returns : tie.Need-returns
 returns c = sym (simp (sym (c .before .one-of .ensures) ∙ not-true _ (c .if1 .taken)))

@@ -1,14 +1,10 @@
 use mathlib.Core.Path.{_≡_, sym, ap, _∙_}
+use borrow.Author.Needs.{needs}
 use Rattle.refusals.specs.Codes.{accepted, verdictCode, firstOf}
 use Rattle.rounds.specs.Rounds.{openChecks}
 use Rattle.rounds.proofs.CheckLaws.{opening-refuses, opening-passes, opening-known}
-use borrow.Author.Needs.{needs}
 use Rattle.rounds.proofs.Round.check_state.Statement.{statement}
 use Rattle.rounds.proofs.Round.check_state.Tie as tie
-use Rattle.rounds.proofs.Round.check_state.Reads as reads
-use Rattle.rounds.proofs.Round.check_state.Lts as lts
-use Rattle.rounds.proofs.Round.check_contents.Reads as check-contents-reads
-use Rattle.rounds.proofs.machine.check_opening.Reads as check-opening-reads
 
 check-opening-requires : tie.Need-check-opening-requires
 check-opening-requires c κs = search needs

@@ -1,12 +1,9 @@
 use mathlib.Core.Path.{ap}
+use borrow.Author.Needs.{needs}
 use Rattle.rounds.specs.Rounds.{opened}
 use Rattle.rounds.specs.Machine.{withSums}
-use borrow.Author.Needs.{needs}
 use Rattle.rounds.proofs.Round.empty.Statement.{statement}
 use Rattle.rounds.proofs.Round.empty.Tie as tie
-use Rattle.rounds.proofs.Round.empty.Reads as reads
-use Rattle.rounds.proofs.Round.empty.Lts as lts
-use Rattle.rounds.proofs.machine.no_sums.Reads as no-sums-reads
 
 no-sums-requires : tie.Need-no-sums-requires
 no-sums-requires c κs = search needs

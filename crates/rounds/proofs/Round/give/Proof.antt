@@ -1,20 +1,16 @@
-use mathlib.Core.Path.{_≡_, sym, ap, _∙_}
-use mathlib.Core.List.{List, []}
 use Prim.Native.Nat.{ℕ}
+use mathlib.Core.Path.{_≡_, sym, ap, _∙_}
+use mathlib.Core.List.{[]}
 use native.Mathlib.Omega.{arith}
 use lib.ListN.{take}
+use borrow.Author.Needs.{needs}
 use Rattle.refusals.specs.declared.Code.{Code}
 use Rattle.refusals.specs.Codes.{accepted, codeOf, verdictCode, firstOf}
 use Rattle.refusals.proofs.CodeLaws.{refused-keeps, accepted-takes}
 use Rattle.rounds.specs.Rounds.{giveChecks}
 use Rattle.rounds.proofs.CheckLaws.{Giving, give-known}
-use borrow.Author.Needs.{needs}
 use Rattle.rounds.proofs.Round.give.Statement.{statement}
 use Rattle.rounds.proofs.Round.give.Tie as tie
-use Rattle.rounds.proofs.Round.give.Reads as reads
-use Rattle.rounds.proofs.Round.give.Lts as lts
-use Rattle.rounds.proofs.Round.check_give.Reads as check-give-reads
-use Rattle.rounds.proofs.Round.write_sums.Reads as write-sums-reads
 
 check-give-requires : tie.Need-check-give-requires
 check-give-requires c κs = c .before .before .pre

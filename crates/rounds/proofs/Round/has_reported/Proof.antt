@@ -1,11 +1,9 @@
 use Prim.Native.Nat.{_-_, _/_, _^_}
 use lib.Bits.{and-mask}
-use Rattle.rounds.specs.Rounds.{hasBit}
 use borrow.Author.Needs.{needs}
+use Rattle.rounds.specs.Rounds.{hasBit}
 use Rattle.rounds.proofs.Round.has_reported.Statement.{statement}
 use Rattle.rounds.proofs.Round.has_reported.Tie as tie
-use Rattle.rounds.proofs.Round.has_reported.Reads as reads
-use Rattle.rounds.proofs.Round.has_reported.Lts as lts
 
 sub-result : tie.Need-sub-result
 sub-result c = search needs

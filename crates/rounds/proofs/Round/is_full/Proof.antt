@@ -1,9 +1,7 @@
-use Rattle.rounds.proofs.ReportedLaws.{mask-some, full-mask}
 use borrow.Author.Needs.{needs}
+use Rattle.rounds.proofs.ReportedLaws.{mask-some, full-mask}
 use Rattle.rounds.proofs.Round.is_full.Statement.{statement}
 use Rattle.rounds.proofs.Round.is_full.Tie as tie
-use Rattle.rounds.proofs.Round.is_full.Reads as reads
-use Rattle.rounds.proofs.Round.is_full.Lts as lts
 
 cast-result : tie.Need-cast-result
 cast-result c = search needs

@@ -1,15 +1,11 @@
 use mathlib.Core.Path.{_≡_, sym, ap, _∙_}
+use borrow.Author.Needs.{needs}
 use Rattle.refusals.specs.declared.Code.{Code}
 use Rattle.refusals.specs.Codes.{accepted, codeOf, verdictCode, firstOf}
 use Rattle.refusals.proofs.CodeLaws.{refused-keeps, accepted-takes}
 use Rattle.rounds.specs.Rounds.{openChecks, opened, noRound}
-use borrow.Author.Needs.{needs}
 use Rattle.rounds.proofs.Round.open.Statement.{statement}
 use Rattle.rounds.proofs.Round.open.Tie as tie
-use Rattle.rounds.proofs.Round.open.Reads as reads
-use Rattle.rounds.proofs.Round.open.Lts as lts
-use Rattle.rounds.proofs.Round.empty.Reads as empty-reads
-use Rattle.rounds.proofs.machine.check_opening.Reads as check-opening-reads
 
 check-opening-requires : tie.Need-check-opening-requires
 check-opening-requires c κs = search needs

@@ -1,17 +1,14 @@
-use lib.ListN.{set}
-use Rattle.matrices.specs.Linear.{at}
-use borrow.Author.Needs.{needs}
+use Prim.Native.Nat.{ℕ, _-_, _≤_, _<_}
 use mathlib.Core.Path.{_≡_, refl, sym, ap, _∙_}
 use mathlib.Core.List.{List}
-use Prim.Native.Nat.{ℕ, _+_, _-_, _≤_, _<_}
 use native.Mathlib.Omega.{arith}
-use lib.ListN.{length, take, length-set}
+use lib.ListN.{set, length, take, length-set}
 use lib.Seq.{take-all}
+use borrow.Author.Needs.{needs}
+use Rattle.matrices.specs.Linear.{at}
 use Rattle.rounds.proofs.StepLaws.{copy-next}
 use Rattle.rounds.proofs.Round.write_sums.Statement.{statement}
 use Rattle.rounds.proofs.Round.write_sums.Tie as tie
-use Rattle.rounds.proofs.Round.write_sums.Reads as reads
-use Rattle.rounds.proofs.Round.write_sums.Lts as lts
 
 abbrev Inv-loop : tie.InvT-loop
 Inv-loop out₀ self p₀ out p = (p ≤ length out) × (length out ≡ length out₀) × (length (self .sums) ≡ 64) × (take p out ≡ take p (self .sums))

@@ -3,9 +3,6 @@ use Rattle.vetting.proofs.PlanBounds.{counts-known}
 use Rattle.rounds.specs.Rounds.{serverRound}
 use Rattle.rounds.proofs.ServerRound.count.Statement.{statement}
 use Rattle.rounds.proofs.ServerRound.count.Tie as tie
-use Rattle.rounds.proofs.ServerRound.count.Reads as reads
-use Rattle.rounds.proofs.ServerRound.count.Lts as lts
-use Rattle.rounds.proofs.Round.count.Reads as count-reads
 
 count-requires : tie.Need-count-requires
 count-requires c κs =

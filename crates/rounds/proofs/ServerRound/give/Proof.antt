@@ -1,11 +1,8 @@
 use mathlib.Core.Path.{refl}
-use Rattle.vetting.proofs.PlanBounds.{counts-known}
 use borrow.Author.Needs.{needs}
+use Rattle.vetting.proofs.PlanBounds.{counts-known}
 use Rattle.rounds.proofs.ServerRound.give.Statement.{statement}
 use Rattle.rounds.proofs.ServerRound.give.Tie as tie
-use Rattle.rounds.proofs.ServerRound.give.Reads as reads
-use Rattle.rounds.proofs.ServerRound.give.Lts as lts
-use Rattle.rounds.proofs.Round.give.Reads as give-reads
 
 give-requires : tie.Need-give-requires
 give-requires c κs =

@@ -1,17 +1,13 @@
-use mathlib.Core.Path.{refl}
-use mathlib.Core.Path.{_≡_, sym, ap, _∙_}
+use mathlib.Core.Path.{refl, _≡_, ap, _∙_}
 use mathlib.Core.Bool.{Bool, true, false, cond}
 use lib.Dec.{eqb}
+use borrow.Author.Needs.{needs}
 use Rattle.refusals.specs.declared.Code.{Code}
-use Rattle.refusals.specs.Codes.{firstOf, ifAccepted}
+use Rattle.refusals.specs.Codes.{firstOf}
 use Rattle.rounds.specs.declared.Round.{Round}
 use Rattle.rounds.specs.Rounds.{openChecks, opened, noRound, serverRound}
-use borrow.Author.Needs.{needs}
 use Rattle.rounds.proofs.ServerRound.open.Statement.{statement}
 use Rattle.rounds.proofs.ServerRound.open.Tie as tie
-use Rattle.rounds.proofs.ServerRound.open.Reads as reads
-use Rattle.rounds.proofs.ServerRound.open.Lts as lts
-use Rattle.rounds.proofs.Round.open.Reads as open-reads
 
 open-requires : tie.Need-open-requires
 open-requires c κs = search needs

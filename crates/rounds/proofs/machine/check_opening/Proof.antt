@@ -1,16 +1,11 @@
-use mathlib.Core.Path.{_≡_}
-use Rattle.refusals.specs.Codes.{firstOf}
-use Rattle.rounds.specs.Rounds.{openChecks}
+use mathlib.Core.Path.{_≡_, sym, _∙_}
 use lib.ListN.{drop}
 use borrow.Author.Tests.{not-true, not-false}
-use mathlib.Core.Path.{sym, _∙_}
 use borrow.Author.Needs.{needs}
+use Rattle.refusals.specs.Codes.{firstOf}
+use Rattle.rounds.specs.Rounds.{openChecks}
 use Rattle.rounds.proofs.machine.check_opening.Statement.{statement}
 use Rattle.rounds.proofs.machine.check_opening.Tie as tie
-use Rattle.rounds.proofs.machine.check_opening.Reads as reads
-use Rattle.rounds.proofs.machine.check_opening.Lts as lts
-use Rattle.arithmetic.proofs.is_prime.Reads as is-prime-reads
-use Rattle.vetting.proofs.counts_fit.Reads as counts-fit-reads
 
 counts-fit-requires : tie.Need-counts-fit-requires
 counts-fit-requires c κs = search needs
