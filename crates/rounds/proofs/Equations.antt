@@ -2,18 +2,24 @@
 -- (26) and the total are in Totals.
 use Prim.Native.Nat.{ℕ, _+_, _*_, _%_, _<_}
 use mathlib.Core.Path.{_≡_, ap, ap₂, _∙_}
-use mathlib.Core.List.{List}
+use mathlib.Core.List.{List, map}
 use lib.ListN.{take, drop}
+use Rattle.refusals.specs.Codes.{accepted, firstOf}
 use Rattle.arithmetic.specs.Field.{sumOf}
 use Rattle.arithmetic.proofs.Congruence.{residue-mod}
 use Rattle.matrices.specs.Linear.{at}
 use Rattle.secrecy.specs.Lists.{tab, joinTo}
 use Rattle.secrecy.specs.Model.{Pool, reading, key, upload}
 use Rattle.secrecy.proofs.ListLaws.{at-tab, length-tab, tab-cong}
+use Rattle.secrecy.proofs.RankCondition.{ZeroSum}
 use Rattle.vetting.specs.declared.Plan.{Plan}
 use Rattle.vetting.specs.Plans.{poolOf, usersOf}
+use Rattle.vetting.specs.Walk.{pairs}
+use Rattle.vetting.specs.Verdict.{columnSum, leakCheck, otherChecks, verdict}
 use Rattle.vetting.specs.Keys.{keysOf}
 use Rattle.vetting.proofs.Joins.{join-part}
+use Rattle.vetting.proofs.Orders.{first-accepts}
+use Rattle.vetting.proofs.VerdictLaws.{columns-numbered, columns-passed}
 use Rattle.rounds.specs.Blocks.{uploadOf}
 
 -- the L symbols of user i among the derived keys
@@ -34,3 +40,13 @@ pub sent-is : (P : Plan) (K : List ℕ) → 0 < P .q → (L : ℕ) (W N : List �
     → uploadOf (P .q) L (tab L (reading L W i)) (take L (drop (i * L) (keysOf P K L N))) ≡ tab L (upload (poolOf P K) L W N i)
 sent-is P K h L W N i l =
     ap (uploadOf (P .q) L (tab L (reading L W i))) (keys-are P K L N i l) ∙ uploads-are (poolOf P K) h L W N i
+
+-- the columns of a plan's key table sum to zero, where no check before 7 refuses it; an accepted plan is one of these
+pub zero-sum : (P : Plan) (K : List ℕ) → accepted ≡ firstOf (otherChecks P K) → ZeroSum (poolOf P K)
+unfolding columnSum
+zero-sum P K e = columns-passed P K e
+
+pub accepted-zero-sum : (P : Plan) (K : List ℕ) → accepted ≡ verdict P K → ZeroSum (poolOf P K)
+accepted-zero-sum P K e =
+    zero-sum P K
+    (first-accepts (otherChecks P K) (map (leakCheck P K) (pairs (P .clusters) (P .size) (P .limit))) (columns-numbered P K (P .rate) (λ k. k)) e)
