@@ -3,14 +3,15 @@
 use std::num::wrapping_add_usize;
 use std::num::wrapping_sub_usize;
 
-// The next state of a linear congruential generator modulo 2^32.
-pub fn step(x: usize) -> usize {
-    (x % 4294967296 * 1664525 + 1013904223) % 4294967296
+// Mixes the bits of a number of 32: the upper half into the lower one, and by the product the lower into the upper.
+fn mixed(x: usize) -> usize {
+    let n = x % 4294967296;
+    (n ^ (n / 65536)) % 4294967296 * 73244475 % 4294967296
 }
 
-// State number n of those that belong to a seed. The first states of near numbers are near each other, hence the steps.
+// Number n of those that belong to a seed. They are mixed and not counted on by a sum, so that no two have a fixed difference.
 pub fn state(seed: usize, n: usize) -> usize {
-    step(step(step(seed % 4294967296 + n % 65536 * 65537)))
+    mixed(mixed(mixed(seed % 4294967296 + n % 65536 * 65537)))
 }
 
 // What a leaves when divided by n; 0 where n is 0.

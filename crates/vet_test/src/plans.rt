@@ -51,15 +51,22 @@ fn tiny(seed: usize) -> Draft {
     }
 }
 
-// Any counts within the bounds; the limit is low, which keeps the walk short.
+// Most often a low one, which keeps the walk short; any in one plan of 4, so that some first leaks are at coalitions with large numbers.
+fn large_limit(seed: usize, users: usize) -> usize {
+    if draw(state(seed, 7), 4) == 0 {
+        return draw(state(seed, 3), after(users, 1));
+    }
+    least(draw(state(seed, 3), 4), users)
+}
+
+// Any counts within the bounds.
 fn large(seed: usize) -> Draft {
     let clusters = from_one(state(seed, 1), 8);
     let size = from_one(state(seed, 2), least(8, quotient(16, clusters)));
-    let limit = draw(state(seed, 3), 4);
     Draft {
         clusters,
         size,
-        limit: least(limit, product(clusters, size)),
+        limit: large_limit(seed, product(clusters, size)),
         rate: from_one(state(seed, 5), 16),
         q: prime(draw(state(seed, 6), 8)),
         seed,

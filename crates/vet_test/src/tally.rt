@@ -37,16 +37,25 @@ fn write_count(name: &[u8], n: u64) {
     io::write_all(STDOUT_FILENO, b"\n");
 }
 
+// In the order in which the reader finds them.
+fn write_reader(n: [u64; 8]) {
+    write_count(b"5, trailer: ", n[5]);
+    write_count(b"1, counts: ", n[1]);
+    write_count(b"4, length: ", n[4]);
+    write_count(b"2, not prime: ", n[2]);
+    write_count(b"3, symbols: ", n[3]);
+}
+
+fn write_vet(n: [u64; 8]) {
+    write_count(b"6, columns: ", n[6]);
+    write_count(b"7, leaks: ", n[7]);
+    write_count(b"0, accepted: ", n[0]);
+}
+
 pub fn write(t: Tally) {
     let n = t.numbers;
     write_count(b"inputs: ", t.inputs);
-    write_count(b"0, accepted: ", n[0]);
-    write_count(b"1, counts: ", n[1]);
-    write_count(b"2, not prime: ", n[2]);
-    write_count(b"3, symbols: ", n[3]);
-    write_count(b"4, length: ", n[4]);
-    write_count(b"5, trailer: ", n[5]);
-    write_count(b"6, columns: ", n[6]);
-    write_count(b"7, leaks: ", n[7]);
+    write_reader(n);
+    write_vet(n);
     write_count(b"differ: ", t.differ);
 }
