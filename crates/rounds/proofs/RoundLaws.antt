@@ -172,7 +172,7 @@ module _ (senders : ℕ) (known : Bool) (clusters size q L number : ℕ) (pass :
           (zero-add (countedAt ledger p)
           ∙ kept-run frames [] carry kept-none p
           ∙ sum-cong senders (λ v. cond (named ledger (suc v)) (at (B (suc v)) p) 0) (λ v. at (B (suc v)) p)
-          (λ v l. ap (λ (t : Bool). cond t (at (B (suc v)) p) 0) (T→true _ (all-at senders (λ i. named ledger (suc i)) (true→T _ full) v l))))
+          (λ v l. ap (λ (t : Bool). cond t (at (B (suc v)) p) 0) (T→true (named ledger (suc v)) (all-at senders (λ i. named ledger (suc i)) (true→T _ full) v l))))
 
   -- ---- giving the sums
 
