@@ -1,16 +1,22 @@
-// Entries for callers in other languages: numbers and slices alone, and the same promises as the functions of vetting.
+// Entries for callers in other languages: numbers, slices and arrays alone, and the same promises as the functions of vetting and rounds.
 ghost use mathlib.Core.Path.{_≡_};
 ghost use Rattle.refusals.specs.Codes.{firstOf, ifAccepted};
 ghost use Rattle.vetting.specs.Plans.{plan, plannedCode};
 ghost use Rattle.vetting.specs.Verdict.{verdict};
 ghost use Rattle.vetting.specs.Maker.{madeTable, makerChecks};
 ghost use Rattle.vetting.specs.Keys.{keysOf, keyChecks};
+ghost use Rattle.rounds.specs.Blocks.{uploadOf, unmaskedOf, blockChecks};
+ghost use Rattle.rounds.specs.Ledger.{frame};
+ghost use Rattle.rounds.specs.Rounds.{oneOf, stepCode, stepped};
 ghost use Rattle.exports.specs.Packed.{packed};
+ghost use Rattle.exports.specs.States.{stateOf};
 use arithmetic::Symbol;
 use refusals::Code;
 use refusals::Verdict;
 use refusals::code_of;
 use refusals::verdict_code;
+use rounds::RelayRound;
+use rounds::Round;
 use vetting::Plan;
 use vetting::Planned;
 
@@ -91,4 +97,73 @@ pub extern "C" fn kortyghai_derive_keys(
         q,
     };
     pack(verdict_code(vetting::derive_keys(plan, table, length, source, keys)))
+}
+
+// What a user sends: each reading with the key's symbol added, where nothing is refused.
+#[no_mangle]
+pub extern "C" fn kortyghai_upload(
+    q: Symbol,
+    length: usize,
+    readings: &[Symbol],
+    key: &[Symbol],
+    out: &mut [Symbol],
+) -> u64
+    ensures { λ r. ⌜ (r ≡ packed (firstOf (blockChecks q length (now (readings .entry)) (now (key .entry)) (now (out .entry))))) × (now (out .exit) ≡ ifAccepted (firstOf (blockChecks q length (now (readings .entry)) (now (key .entry)) (now (out .entry)))) (uploadOf q length (now (readings .entry)) (now (key .entry))) (now (out .entry))) ⌝ }
+{
+    pack(verdict_code(rounds::upload(q, length, readings, key, out)))
+}
+
+// The readings of an upload, for whoever has its key.
+#[no_mangle]
+pub extern "C" fn kortyghai_unmask(
+    q: Symbol,
+    length: usize,
+    upload: &[Symbol],
+    key: &[Symbol],
+    out: &mut [Symbol],
+) -> u64
+    ensures { λ r. ⌜ (r ≡ packed (firstOf (blockChecks q length (now (upload .entry)) (now (key .entry)) (now (out .entry))))) × (now (out .exit) ≡ ifAccepted (firstOf (blockChecks q length (now (upload .entry)) (now (key .entry)) (now (out .entry)))) (unmaskedOf q length (now (upload .entry)) (now (key .entry))) (now (out .entry))) ⌝ }
+{
+    pack(verdict_code(rounds::unmask(q, length, upload, key, out)))
+}
+
+// A frame into a relay's round, whose state is handed over in numbers; who has reported and the sums are lent, and stand as the step leaves them.
+// `said` is the round number that the frame has.
+#[no_mangle]
+pub extern "C" fn kortyghai_count_frame(
+    clusters: usize,
+    size: usize,
+    q: Symbol,
+    length: usize,
+    cluster: usize,
+    number: u32,
+    reported: &mut u16,
+    sums: &mut [Symbol; 64],
+    sender: usize,
+    said: u32,
+    block: &[Symbol],
+) -> u64
+    ensures answer { λ r. ⌜ r ≡ packed (stepCode size (oneOf clusters cluster) (stateOf clusters size q length number (now (reported .entry)) (now (sums .entry))) (frame sender said (now (block .entry)))) ⌝ }
+    ensures bits { λ _. ⌜ now (reported .exit) ≡ stepped size (oneOf clusters cluster) (stateOf clusters size q length number (now (reported .entry)) (now (sums .entry))) (frame sender said (now (block .entry))) .reported ⌝ }
+    ensures totals { λ _. ⌜ now (sums .exit) ≡ stepped size (oneOf clusters cluster) (stateOf clusters size q length number (now (reported .entry)) (now (sums .entry))) (frame sender said (now (block .entry))) .sums ⌝ }
+{
+    let before = *sums;
+    let round = Round {
+        clusters,
+        size,
+        q,
+        length,
+        number,
+        reported: *reported,
+        sums: before,
+    };
+    let relay = RelayRound { cluster, round };
+    let step = relay.count(sender, said, block);
+    let answer = step.answer;
+    let next = step.round;
+    let after = next.round;
+    let left = after.sums;
+    *reported = after.reported;
+    *sums = left;
+    pack(verdict_code(answer))
 }
