@@ -1,5 +1,7 @@
 // Entries for callers in other languages: numbers, slices and arrays alone, and the same promises as the functions of vetting and rounds.
 ghost use mathlib.Core.Path.{_≡_};
+ghost use Prim.Native.Nat.{_<_};
+ghost use lib.ListN.{length};
 ghost use Rattle.refusals.specs.Codes.{firstOf, ifAccepted};
 ghost use Rattle.vetting.specs.Plans.{plan, plannedCode};
 ghost use Rattle.vetting.specs.Verdict.{verdict};
@@ -10,8 +12,12 @@ ghost use Rattle.rounds.specs.Ledger.{frame};
 ghost use Rattle.rounds.specs.Rounds.{oneOf, stepCode, stepped};
 ghost use Rattle.exports.specs.Packed.{packed};
 ghost use Rattle.exports.specs.States.{stateOf};
+ghost use Rattle.vetting.specs.Records.{planRead, tableRead, padded};
+ghost use Rattle.vetting.specs.Program.{programCode};
+ghost use Rattle.exports.specs.Reading.{countsOf, entryChecks};
 use arithmetic::Symbol;
 use refusals::Code;
+use refusals::Refusal;
 use refusals::Verdict;
 use refusals::code_of;
 use refusals::verdict_code;
@@ -166,4 +172,50 @@ pub extern "C" fn kortyghai_count_frame(
     *reported = after.reported;
     *sums = left;
     pack(verdict_code(answer))
+}
+
+// What the program `vet` says of the record at the end of the bytes.
+#[no_mangle]
+pub extern "C" fn kortyghai_vet_record(bytes: &[u8]) -> u64
+    ensures { λ r. ⌜ r ≡ packed (programCode (now (bytes .entry))) ⌝ }
+{
+    pack(verdict_code(vetting::vet_record(bytes)))
+}
+
+// How many numbers a plan has beside its key table.
+const COUNTS: usize = 5;
+
+// U, V, T, R and q.
+fn write_counts(plan: Plan, counts: &mut [u16])
+    requires { ⌜ (plan .clusters < 65536) × (plan .size < 65536) × (plan .limit < 65536) × (plan .rate < 65536) × (length (now counts) ≡ 5) ⌝ }
+    ensures { λ _. ⌜ now (counts .exit) ≡ countsOf plan ⌝ }
+{
+    counts[0] = plan.clusters as u16;
+    counts[1] = plan.size as u16;
+    counts[2] = plan.limit as u16;
+    counts[3] = plan.rate as u16;
+    counts[4] = plan.q;
+}
+
+// The record at the end of the bytes: its key table in the lent table, the plan's numbers in the lent counts, where nothing is refused.
+#[no_mangle]
+pub extern "C" fn kortyghai_read_record(
+    bytes: &[u8],
+    table: &mut [Symbol],
+    counts: &mut [u16],
+) -> u64
+    ensures code { λ r. ⌜ r ≡ packed (firstOf (entryChecks (now (bytes .entry)) (now (table .entry)) (now (counts .entry)))) ⌝ }
+    ensures table { λ _. ⌜ now (table .exit) ≡ ifAccepted (firstOf (entryChecks (now (bytes .entry)) (now (table .entry)) (now (counts .entry)))) (padded (tableRead (now (bytes .entry)))) (now (table .entry)) ⌝ }
+    ensures counts { λ _. ⌜ now (counts .exit) ≡ ifAccepted (firstOf (entryChecks (now (bytes .entry)) (now (table .entry)) (now (counts .entry)))) (countsOf (planRead (now (bytes .entry)))) (now (counts .entry)) ⌝ }
+{
+    if counts.len() != COUNTS {
+        return pack(code_of(Refusal::WrongLength));
+    }
+    match vetting::read_record(bytes, table) {
+        Planned::Refused(refusal) => pack(code_of(refusal)),
+        Planned::Made(plan) => {
+            write_counts(plan, counts);
+            pack(verdict_code(Verdict::Accepted))
+        }
+    }
 }

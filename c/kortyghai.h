@@ -1,0 +1,148 @@
+/*
+ * Kortyghai for callers in C: plans, their records, the vet, key tables, keys, uploads.
+ *
+ * Every function answers one number of 64 bits, which packs the number of the refusal (0: nothing is refused) and its two
+ * details. Take them out by the three macros below. A refused call writes nothing.
+ *
+ * A run of bytes or symbols is passed as its address and its length, the length counted in bytes or symbols. The address is
+ * never null, also where the length is 0. A buffer that a call writes to overlaps no other buffer of that call. Nothing is kept
+ * between calls, nothing is allocated, and calls from several threads at once don't disturb each other.
+ *
+ * A symbol is a whole number below the plan's prime q, held in 16 bits. A plan has
+ *
+ *     clusters  U, from 1 to 8
+ *     size      V, users in a cluster, from 1 to 8; U x V is at most 16
+ *     limit     T, the most users of a coalition, from 0 to U x V
+ *     rate      R, source symbols a position, from 1 to 16
+ *     q         a prime from 2 to 65,521
+ *
+ * and a key table of U x V rows, user by user and cluster by cluster, of R symbols each. The user number v of cluster u, both
+ * from 1, has index (u - 1) x V + v - 1. A coalition is a number with one bit for each user's index.
+ */
+#ifndef KORTYGHAI_H
+#define KORTYGHAI_H
+
+#include <stddef.h>
+#include <stdint.h>
+
+#ifdef __cplusplus
+extern "C" {
+#endif
+
+/* What an answer holds: the refusal's number, its first detail and its second. */
+#define KORTYGHAI_NUMBER(answer) ((uint16_t)((uint64_t)(answer) & 0xFFFF))
+#define KORTYGHAI_FIRST(answer) ((uint16_t)((uint64_t)(answer) >> 16 & 0xFFFF))
+#define KORTYGHAI_SECOND(answer) ((uint16_t)((uint64_t)(answer) >> 32 & 0xFFFF))
+
+/* The numbers. Both details are 0, but for 6 and 7. */
+#define KORTYGHAI_ACCEPTED 0
+#define KORTYGHAI_OUT_OF_BOUNDS 1     /* a count of the plan is outside its bounds */
+#define KORTYGHAI_NOT_PRIME 2         /* q is no prime */
+#define KORTYGHAI_NOT_A_SYMBOL 3      /* a symbol is not below q */
+#define KORTYGHAI_WRONG_LENGTH 4      /* a buffer, table or record of the wrong length */
+#define KORTYGHAI_BAD_TRAILER 5       /* the bytes don't end with a trailer whose record lies in them */
+#define KORTYGHAI_NOT_ZERO_SUM 6      /* the rows don't sum to zero; first: the first such column, from 1 */
+#define KORTYGHAI_LEAKS 7             /* the plan leaks; first: coalition, second: relay from 1, or 0 for the server */
+#define KORTYGHAI_UNKNOWN_NUMBER 8    /* a user or relay number that the plan doesn't have */
+#define KORTYGHAI_BAD_BLOCK_LENGTH 9  /* the block length is not from 1 to 64 */
+#define KORTYGHAI_LIMIT_TOO_LARGE 10  /* the table maker is given T not less than (U - 1) x V */
+#define KORTYGHAI_ALREADY_REPORTED 11 /* this sender is already on the roll */
+#define KORTYGHAI_NOT_FULL 12         /* sums wanted while the roll is not full */
+#define KORTYGHAI_STREAM_TOO_SHORT 13 /* the key stream has fewer symbols left than a block needs */
+#define KORTYGHAI_OTHER_ROUND 14      /* the frame's round number is another one */
+
+/* Exact lengths of two lent buffers, and the most bytes that kortyghai_vet_record takes. */
+#define KORTYGHAI_READ_TABLE 256
+#define KORTYGHAI_COUNTS 5
+#define KORTYGHAI_MOST_BYTES 65535
+
+/*
+ * The vet: is the plan good, and does it hide what it has to hide?
+ *
+ *     table   the key table, exactly U x V x R symbols
+ *
+ * Refuses, the first that holds: 1, 4, 2, 3, 6, 7.
+ */
+uint64_t kortyghai_vet(size_t clusters, size_t size, size_t limit, size_t rate, uint16_t q, const uint16_t *table,
+                       size_t table_len);
+
+/*
+ * The vet's answer on the plan record at the end of the bytes; what stands before the record doesn't matter. It is what the
+ * program `vet` prints for these bytes.
+ *
+ *     bytes   at most 65,535 bytes
+ *
+ * Refuses, the first that holds: 4 (more than 65,535 bytes), then the reader's 5, 1, 4 (the record's length is not that of its
+ * plan), 2, 3, then the vet's 6, 7.
+ */
+uint64_t kortyghai_vet_record(const uint8_t *bytes, size_t bytes_len);
+
+/*
+ * Reads the plan record at the end of the bytes, without vetting it.
+ *
+ *     table    exactly 256 symbols: the key table is put there, and 0 past its U x V x R symbols
+ *     counts   exactly 5 numbers: U, V, T, R and q are put there, in this order
+ *
+ * Refuses, the first that holds: 4 (counts has not exactly 5 numbers), then the reader's 5, 1, 4 (the record's length is not
+ * that of its plan, or table has not exactly 256 symbols), 2, 3.
+ */
+uint64_t kortyghai_read_record(const uint8_t *bytes, size_t bytes_len, uint16_t *table, size_t table_len, uint16_t *counts,
+                               size_t counts_len);
+
+/*
+ * The table maker: a key table for U clusters of V users and coalitions of at most T, made of powers of a symbol and vetted.
+ * The rate is R = max(V + T, min(U + T - 1, U x V - 1)).
+ *
+ *     generator   a symbol below q
+ *     table       exactly U x V x R symbols: the key table is put there
+ *
+ * Refuses, the first that holds: 1, 2, 3, 10, 4, 7 (the table that the generator gives leaks).
+ */
+uint64_t kortyghai_make_table(size_t clusters, size_t size, size_t limit, uint16_t q, uint16_t generator, uint16_t *table,
+                              size_t table_len);
+
+/*
+ * Each user's keys, for a plan that the vet accepts.
+ *
+ *     table    the key table, exactly U x V x R symbols
+ *     length   L, positions in a block, from 1 to 64
+ *     source   the source key, exactly R x L symbols, position by position
+ *     keys     exactly U x V x L symbols: the keys are put there, user by user in index order, L symbols each
+ *
+ * Refuses, the first that holds: the vet's 1, 4, 2, 3, 6, 7, then 9, 4 (source or keys), 3 (a symbol of source).
+ */
+uint64_t kortyghai_derive_keys(size_t clusters, size_t size, size_t limit, size_t rate, uint16_t q, const uint16_t *table,
+                               size_t table_len, size_t length, const uint16_t *source, size_t source_len, uint16_t *keys,
+                               size_t keys_len);
+
+/*
+ * A user's upload: reading plus key, position by position, modulo q.
+ *
+ *     length     L, from 1 to 64
+ *     readings   exactly L symbols
+ *     key        exactly L symbols
+ *     out        exactly L symbols: the upload is put there
+ *
+ * Refuses, the first that holds: 2, 9, 4, 3.
+ */
+uint64_t kortyghai_upload(uint16_t q, size_t length, const uint16_t *readings, size_t readings_len, const uint16_t *key,
+                          size_t key_len, uint16_t *out, size_t out_len);
+
+/*
+ * Takes a key off its upload: upload minus key, position by position, modulo q, which gives the readings back.
+ *
+ *     length   L, from 1 to 64
+ *     upload   exactly L symbols
+ *     key      exactly L symbols
+ *     out      exactly L symbols: the readings are put there
+ *
+ * Refuses, the first that holds: 2, 9, 4, 3.
+ */
+uint64_t kortyghai_unmask(uint16_t q, size_t length, const uint16_t *upload, size_t upload_len, const uint16_t *key,
+                          size_t key_len, uint16_t *out, size_t out_len);
+
+#ifdef __cplusplus
+}
+#endif
+
+#endif

@@ -1,0 +1,194 @@
+//! Kortyghai, the secure-aggregation core of a power pool, for callers in Rust.
+//!
+//! The work is done by functions in the archive `libexports.a`, each proved to meet its contract; this crate hands them slices
+//! and turns their answers into `Result`. It adds no rules: what is refused, and in which order, is decided there. A refused
+//! call writes nothing.
+//!
+//! Build the archive first, by `rt staticlib exports` at the top of the repository.
+//!
+//! ```
+//! // two clusters of two users, coalitions of at most one, q 5
+//! let (plan, table) = kortyghai::make_table(2, 2, 1, 5, 2)?;
+//! assert_eq!(kortyghai::vet(&plan, &table), Ok(()));
+//! assert_eq!(kortyghai::derive_keys(&plan, &table, 1, &[1, 2, 3])?, [1, 2, 2, 0]);
+//!
+//! // with coalitions of two the same table leaks: users 1 and 2 (coalition 3) to relay 2
+//! let refusal = kortyghai::vet(&kortyghai::Plan { limit: 2, ..plan }, &table).unwrap_err();
+//! assert_eq!((refusal.number, refusal.first, refusal.second), (7, 3, 2));
+//! # Ok::<(), kortyghai::Refusal>(())
+//! ```
+
+mod raw;
+mod refusal;
+
+pub use refusal::Refusal;
+
+/// How many symbols a table has that is lent to the reader of a record.
+pub const READ_TABLE: usize = 256;
+
+/// How many numbers a plan has beside its key table: U, V, T, R and q.
+pub const COUNTS: usize = 5;
+
+/// The most positions of a block.
+pub const MAX_LENGTH: usize = 64;
+
+/// `clusters` clusters of `size` users each, coalitions of at most `limit` users, `rate` source symbols a position, and a prime
+/// `q`. The key table goes beside it: a row of `rate` symbols for each user, cluster by cluster.
+///
+/// Any numbers can stand here; a call refuses those that are outside their bounds.
+#[derive(Clone, Copy, PartialEq, Eq, Hash, Debug)]
+pub struct Plan {
+    pub clusters: usize,
+    pub size: usize,
+    pub limit: usize,
+    pub rate: usize,
+    pub q: u16,
+}
+
+impl Plan {
+    /// The users of all clusters.
+    pub fn users(&self) -> usize {
+        self.clusters.saturating_mul(self.size)
+    }
+
+    /// The symbols of the key table.
+    pub fn symbols(&self) -> usize {
+        self.users().saturating_mul(self.rate)
+    }
+}
+
+/// The vet: is the plan good, and does its key table hide from each relay and from the server what it has to hide?
+///
+/// Refuses, the first that holds: 1, 4 (`table` has not exactly U × V × R symbols), 2, 3, 6, 7.
+pub fn vet(plan: &Plan, table: &[u16]) -> Result<(), Refusal> {
+    Refusal::unpack(unsafe {
+        raw::kortyghai_vet(plan.clusters, plan.size, plan.limit, plan.rate, plan.q, table.as_ptr(), table.len())
+    })
+}
+
+/// The vet's answer on the plan record at the end of the bytes. What stands before the record doesn't matter.
+///
+/// Refuses, the first that holds: 4 (more than 65,535 bytes), 5, 1, 4 (the record's length is not that of its plan), 2, 3, 6, 7.
+pub fn vet_record(bytes: &[u8]) -> Result<(), Refusal> {
+    Refusal::unpack(unsafe { raw::kortyghai_vet_record(bytes.as_ptr(), bytes.len()) })
+}
+
+/// Reads the plan record at the end of the bytes into lent buffers, without vetting it: the key table and 0 past it into
+/// `table`, which has exactly [`READ_TABLE`] symbols, and U, V, T, R and q into `counts`, which has exactly [`COUNTS`] places.
+///
+/// Refuses, the first that holds: 4 (`counts`), 5, 1, 4 (the record's length, or `table`), 2, 3.
+pub fn read_record_into(bytes: &[u8], table: &mut [u16], counts: &mut [u16]) -> Result<(), Refusal> {
+    Refusal::unpack(unsafe {
+        raw::kortyghai_read_record(bytes.as_ptr(), bytes.len(), table.as_mut_ptr(), table.len(), counts.as_mut_ptr(), counts.len())
+    })
+}
+
+/// The plan and the key table of the record at the end of the bytes, not vetted.
+///
+/// Refuses, the first that holds: 5, 1, 4 (the record's length is not that of its plan), 2, 3.
+pub fn read_record(bytes: &[u8]) -> Result<(Plan, Vec<u16>), Refusal> {
+    let (mut table, mut counts) = ([0; READ_TABLE], [0; COUNTS]);
+    read_record_into(bytes, &mut table, &mut counts)?;
+    let [clusters, size, limit, rate] = [counts[0], counts[1], counts[2], counts[3]].map(usize::from);
+    let plan = Plan { clusters, size, limit, rate, q: counts[4] };
+    Ok((plan, table[..plan.symbols()].to_vec()))
+}
+
+/// The table maker's rate: max(V + T, min(U + T − 1, U × V − 1)). None, where the counts are so large that the maker refuses
+/// them anyway.
+fn rate_of(clusters: usize, size: usize, limit: usize) -> Option<usize> {
+    if !(1..=8).contains(&clusters) || !(1..=8).contains(&size) || limit > 64 {
+        return None;
+    }
+    Some((size + limit).max((clusters + limit - 1).min(clusters * size - 1)))
+}
+
+/// The table maker, into a lent table of exactly U × V × R symbols, R = max(V + T, min(U + T − 1, U × V − 1)).
+///
+/// Refuses, the first that holds: 1, 2, 3 (`generator` is not below q), 10, 4 (`table`), 7.
+pub fn make_table_into(clusters: usize, size: usize, limit: usize, q: u16, generator: u16, table: &mut [u16]) -> Result<(), Refusal> {
+    Refusal::unpack(unsafe {
+        raw::kortyghai_make_table(clusters, size, limit, q, generator, table.as_mut_ptr(), table.len())
+    })
+}
+
+/// A plan that the vet accepts and its key table, made of powers of the symbol `generator`.
+///
+/// Refuses, the first that holds: 1, 2, 3 (`generator` is not below q), 10, 7.
+pub fn make_table(clusters: usize, size: usize, limit: usize, q: u16, generator: u16) -> Result<(Plan, Vec<u16>), Refusal> {
+    let plan = Plan { clusters, size, limit, rate: rate_of(clusters, size, limit).unwrap_or(0), q };
+    let mut table = vec![0; plan.symbols()];
+    make_table_into(clusters, size, limit, q, generator, &mut table)?;
+    Ok((plan, table))
+}
+
+/// Each user's keys, into a lent buffer of exactly U × V × L symbols: user by user in index order, L = `length` symbols each.
+/// `source` has exactly R × L symbols, position by position.
+///
+/// Refuses, the first that holds: the vet's 1, 4, 2, 3, 6, 7, then 9, 4 (`source` or `keys`), 3 (a symbol of `source`).
+pub fn derive_keys_into(plan: &Plan, table: &[u16], length: usize, source: &[u16], keys: &mut [u16]) -> Result<(), Refusal> {
+    Refusal::unpack(unsafe {
+        raw::kortyghai_derive_keys(
+            plan.clusters,
+            plan.size,
+            plan.limit,
+            plan.rate,
+            plan.q,
+            table.as_ptr(),
+            table.len(),
+            length,
+            source.as_ptr(),
+            source.len(),
+            keys.as_mut_ptr(),
+            keys.len(),
+        )
+    })
+}
+
+/// Each user's keys, for a plan that the vet accepts. The same refusals.
+pub fn derive_keys(plan: &Plan, table: &[u16], length: usize, source: &[u16]) -> Result<Vec<u16>, Refusal> {
+    // more than 16 users or 64 positions are refused by 1 or 9, before the length of the keys counts
+    let wanted = if plan.users() <= 16 && length <= MAX_LENGTH { plan.users() * length } else { 0 };
+    let mut keys = vec![0; wanted];
+    derive_keys_into(plan, table, length, source, &mut keys)?;
+    Ok(keys)
+}
+
+/// A user's upload, into a lent buffer: reading plus key, position by position, modulo q. The three buffers have exactly
+/// L = `length` symbols.
+///
+/// Refuses, the first that holds: 2, 9, 4, 3.
+#[cfg(feature = "blocks")]
+pub fn upload_into(q: u16, length: usize, readings: &[u16], key: &[u16], out: &mut [u16]) -> Result<(), Refusal> {
+    Refusal::unpack(unsafe {
+        raw::kortyghai_upload(q, length, readings.as_ptr(), readings.len(), key.as_ptr(), key.len(), out.as_mut_ptr(), out.len())
+    })
+}
+
+/// Takes a key off its upload, into a lent buffer: upload minus key, position by position, modulo q, which gives the readings
+/// back. The same lengths and refusals.
+#[cfg(feature = "blocks")]
+pub fn unmask_into(q: u16, length: usize, upload: &[u16], key: &[u16], out: &mut [u16]) -> Result<(), Refusal> {
+    Refusal::unpack(unsafe {
+        raw::kortyghai_unmask(q, length, upload.as_ptr(), upload.len(), key.as_ptr(), key.len(), out.as_mut_ptr(), out.len())
+    })
+}
+
+/// A user's upload. Refuses, the first that holds: 2, 9, 4, 3.
+#[cfg(feature = "blocks")]
+pub fn upload(q: u16, readings: &[u16], key: &[u16]) -> Result<Vec<u16>, Refusal> {
+    let mut out = vec![0; readings.len()];
+    upload_into(q, readings.len(), readings, key, &mut out)?;
+    Ok(out)
+}
+
+/// The readings of an upload. Refuses, the first that holds: 2, 9, 4, 3.
+#[cfg(feature = "blocks")]
+pub fn unmask(q: u16, upload: &[u16], key: &[u16]) -> Result<Vec<u16>, Refusal> {
+    let mut out = vec![0; upload.len()];
+    unmask_into(q, upload.len(), upload, key, &mut out)?;
+    Ok(out)
+}
+
+#[cfg(test)]
+mod tests;

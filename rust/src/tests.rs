@@ -1,0 +1,156 @@
+//! The small pool.
+
+use crate::*;
+
+const SMALL: Plan = Plan { clusters: 2, size: 2, limit: 1, rate: 3, q: 5 };
+
+const TABLE: [u16; 12] = [1, 0, 0, 1, 2, 4, 1, 4, 1, 2, 4, 0];
+
+const RECORD: [u8; 34] = [
+    0x02, 0x02, 0x01, 0x03, 0x05, 0x00, 0x01, 0x00, 0x00, 0x00, 0x00, 0x00, 0x01, 0x00, 0x02, 0x00, 0x04, 0x00, 0x01, 0x00, 0x04, 0x00,
+    0x01, 0x00, 0x02, 0x00, 0x04, 0x00, 0x00, 0x00, 0x22, 0x00, 0x4B, 0x50,
+];
+
+fn refused<T>(number: u16, first: u16, second: u16) -> Result<T, Refusal> {
+    Err(Refusal { number, first, second })
+}
+
+/// The small pool's record with one byte changed.
+fn with(place: usize, byte: u8) -> [u8; 34] {
+    let mut bytes = RECORD;
+    bytes[place] = byte;
+    bytes
+}
+
+#[test]
+fn vet_small_pool() {
+    assert_eq!(vet(&SMALL, &TABLE), Ok(()));
+    assert_eq!(vet(&Plan { limit: 2, ..SMALL }, &TABLE), refused(7, 3, 2));
+    assert_eq!(vet(&Plan { q: 9, ..SMALL }, &TABLE), refused(2, 0, 0));
+    assert_eq!(vet(&Plan { q: 3, ..SMALL }, &TABLE), refused(3, 0, 0));
+    assert_eq!(vet(&Plan { clusters: 9, ..SMALL }, &TABLE), refused(1, 0, 0));
+    assert_eq!(vet(&SMALL, &TABLE[..11]), refused(4, 0, 0));
+    assert_eq!(vet(&SMALL, &[]), refused(4, 0, 0));
+}
+
+#[test]
+fn vet_bare_plans() {
+    let bare = Plan { clusters: 2, size: 1, limit: 0, rate: 1, q: 5 };
+    assert_eq!(vet(&bare, &[0, 0]), refused(7, 0, 1));
+    assert_eq!(vet(&bare, &[1, 1]), refused(6, 1, 0));
+    assert_eq!(vet(&Plan { clusters: 1, ..bare }, &[0]), refused(7, 0, 1));
+}
+
+#[test]
+fn counts_of_any_size_are_refused() {
+    let huge = Plan { clusters: usize::MAX, size: usize::MAX, limit: usize::MAX, rate: usize::MAX, q: 5 };
+    assert_eq!(vet(&huge, &TABLE), refused(1, 0, 0));
+    assert_eq!(make_table(usize::MAX, 2, 1, 5, 2), refused(1, 0, 0));
+    assert_eq!(make_table(2, 2, usize::MAX, 5, 2), refused(1, 0, 0));
+    assert_eq!(derive_keys(&huge, &TABLE, usize::MAX, &[]), refused(1, 0, 0));
+    assert_eq!(derive_keys(&SMALL, &TABLE, usize::MAX, &[]), refused(9, 0, 0));
+}
+
+#[test]
+fn vet_records() {
+    assert_eq!(vet_record(&RECORD), Ok(()));
+    assert_eq!(vet_record(&with(2, 2)), refused(7, 3, 2));
+    assert_eq!(vet_record(&[]), refused(5, 0, 0));
+    assert_eq!(vet_record(&RECORD[..33]), refused(5, 0, 0));
+    let mut long = vec![0; 65_536 - 34];
+    long.extend(RECORD);
+    assert_eq!(vet_record(&long[1..]), Ok(()));
+    assert_eq!(vet_record(&long), refused(4, 0, 0));
+}
+
+#[test]
+fn read_records() {
+    assert_eq!(read_record(&RECORD), Ok((SMALL, TABLE.to_vec())));
+    // the reader doesn't vet
+    assert_eq!(read_record(&with(2, 2)), Ok((Plan { limit: 2, ..SMALL }, TABLE.to_vec())));
+    assert_eq!(read_record(&with(33, 0)), refused(5, 0, 0));
+    assert_eq!(read_record(&with(2, 5)), refused(1, 0, 0));
+    assert_eq!(read_record(&with(3, 2)), refused(4, 0, 0));
+    assert_eq!(read_record(&with(4, 9)), refused(2, 0, 0));
+    assert_eq!(read_record(&with(4, 3)), refused(3, 0, 0));
+}
+
+#[test]
+fn lent_buffers_of_the_reader() {
+    let (mut table, mut counts) = ([7; 257], [7; 6]);
+    assert_eq!(read_record_into(&RECORD, &mut table[..256], &mut counts), refused(4, 0, 0));
+    assert_eq!(read_record_into(&RECORD[1..], &mut table[..256], &mut counts[..4]), refused(4, 0, 0));
+    assert_eq!(read_record_into(&RECORD[1..], &mut table[..256], &mut counts[..5]), refused(5, 0, 0));
+    assert_eq!(read_record_into(&RECORD, &mut table, &mut counts[..5]), refused(4, 0, 0));
+    assert_eq!(read_record_into(&RECORD, &mut table[..255], &mut counts[..5]), refused(4, 0, 0));
+    assert_eq!((table, counts), ([7; 257], [7; 6]));
+    assert_eq!(read_record_into(&RECORD, &mut table[..256], &mut counts[..5]), Ok(()));
+    assert_eq!(table[..12], TABLE);
+    assert_eq!(table[12..256], [0; 244]);
+    assert_eq!((table[256], counts), (7, [2, 2, 1, 3, 5, 7]));
+}
+
+#[test]
+fn make_tables() {
+    assert_eq!(make_table(2, 2, 1, 5, 2), Ok((SMALL, TABLE.to_vec())));
+    assert_eq!(make_table(2, 2, 2, 5, 2), refused(10, 0, 0));
+    assert_eq!(make_table(2, 2, 1, 9, 2), refused(2, 0, 0));
+    assert_eq!(make_table(2, 2, 1, 5, 5), refused(3, 0, 0));
+    let mut table = [7; 13];
+    assert_eq!(make_table_into(2, 2, 1, 5, 2, &mut table), refused(4, 0, 0));
+    assert_eq!(table, [7; 13]);
+    // every plan that the maker can make has the rate that this crate lends room for
+    for (u, v) in (1..=8).flat_map(|u| (1..=8).map(move |v| (u, v))).filter(|(u, v)| u * v <= 12) {
+        for limit in 0..=u * v {
+            match make_table(u, v, limit, 65521, 17) {
+                Ok((plan, table)) => assert_eq!(vet(&plan, &table), Ok(())),
+                Err(refusal) => assert!(limit >= (u - 1) * v && refusal.number == 10, "{u} {v} {limit} {refusal}"),
+            }
+        }
+    }
+}
+
+#[test]
+fn derive_small_keys() {
+    assert_eq!(derive_keys(&SMALL, &TABLE, 1, &[1, 2, 3]), Ok(vec![1, 2, 2, 0]));
+    assert_eq!(derive_keys(&SMALL, &TABLE, 2, &[1, 2, 3, 0, 0, 0]), Ok(vec![1, 0, 2, 0, 2, 0, 0, 0]));
+    assert_eq!(derive_keys(&Plan { limit: 2, ..SMALL }, &TABLE, 1, &[1, 2, 3]), refused(7, 3, 2));
+    assert_eq!(derive_keys(&SMALL, &TABLE, 0, &[]), refused(9, 0, 0));
+    assert_eq!(derive_keys(&SMALL, &TABLE, 65, &[0; 195]), refused(9, 0, 0));
+    assert_eq!(derive_keys(&SMALL, &TABLE, 1, &[1, 2]), refused(4, 0, 0));
+    assert_eq!(derive_keys(&SMALL, &TABLE, 1, &[1, 2, 5]), refused(3, 0, 0));
+    assert_eq!(derive_keys(&SMALL, &TABLE, 64, &[1; 192]).map(|keys| keys.len()), Ok(256));
+}
+
+/// Keys, uploads, sums: the readings 3, 4, 0, 2 sum to 4, and so do the uploads.
+#[test]
+fn uploads_sum_to_the_total() {
+    let keys = derive_keys(&SMALL, &TABLE, 1, &[1, 2, 3]).unwrap();
+    let uploads: Vec<u16> = [3, 4, 0, 2].iter().zip(&keys).map(|(reading, key)| (reading + key) % 5).collect();
+    assert_eq!(uploads, [4, 1, 2, 2]);
+    assert_eq!(uploads.iter().sum::<u16>() % 5, 4);
+}
+
+#[cfg(feature = "blocks")]
+#[test]
+fn blocks_there_and_back() {
+    let (readings, key) = ([3, 4, 0, 2], [1, 2, 2, 0]);
+    assert_eq!(upload(5, &readings, &key), Ok(vec![4, 1, 2, 2]));
+    assert_eq!(unmask(5, &[4, 1, 2, 2], &key), Ok(readings.to_vec()));
+    assert_eq!(upload(9, &readings, &key), refused(2, 0, 0));
+    assert_eq!(upload(5, &[], &[]), refused(9, 0, 0));
+    assert_eq!(upload(5, &readings, &key[..3]), refused(4, 0, 0));
+    assert_eq!(upload(5, &readings, &[1, 2, 2, 5]), refused(3, 0, 0));
+    let mut out = [7; 4];
+    assert_eq!(unmask_into(5, 4, &readings, &[1, 2, 2, 5], &mut out), refused(3, 0, 0));
+    assert_eq!(out, [7; 4]);
+}
+
+#[test]
+fn refusals_in_words() {
+    let text = |number, first, second| Refusal { number, first, second }.to_string();
+    assert_eq!(text(7, 3, 2), "7: the plan leaks (coalition 3 to relay 2)");
+    assert_eq!(text(7, 3, 0), "7: the plan leaks (coalition 3 to the server)");
+    assert_eq!(text(6, 1, 0), "6: the rows don't sum to zero (column 1)");
+    assert_eq!(text(2, 0, 0), "2: q is no prime");
+}
