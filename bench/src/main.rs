@@ -1,9 +1,10 @@
-//! Compares the proved functions with plain ones on seeded plans, and times the vet. `compare` and `speed` do one of the two;
+//! Compares the proved functions with plain ones on seeded inputs, and times them. `compare` and `speed` do one of the two;
 //! `examples FOLDER` writes the record files of examples/.
 
 mod examples;
 mod plain;
 mod proved;
+mod rounds;
 mod speed;
 mod tally;
 
@@ -37,7 +38,7 @@ fn main() {
         return examples::write(folder.as_ref());
     }
     let differ = if word == "speed" { 0 } else { tally::compare() };
-    let met = if word == "compare" { true } else { speed::measure() };
+    let met = if word == "compare" { true } else { speed::measure() & rounds::measure() };
     if differ > 0 || !met {
         std::process::exit(1);
     }

@@ -1,5 +1,6 @@
 //! The proved functions, as a caller outside the language sees them: a slice is its address and its length.
 
+use crate::rounds::Relay;
 use crate::{Code, Plan};
 
 extern "C" {
@@ -18,6 +19,22 @@ extern "C" {
         given: usize,
         keys: *mut u16,
         lent: usize,
+    ) -> u64;
+    fn kortyghai_upload(q: u16, length: usize, a: *const u16, n: usize, key: *const u16, m: usize, out: *mut u16, lent: usize) -> u64;
+    fn kortyghai_unmask(q: u16, length: usize, a: *const u16, n: usize, key: *const u16, m: usize, out: *mut u16, lent: usize) -> u64;
+    fn kortyghai_count_frame(
+        clusters: usize,
+        size: usize,
+        q: u16,
+        length: usize,
+        cluster: usize,
+        number: u32,
+        reported: *mut u16,
+        sums: *mut [u16; 64],
+        sender: usize,
+        said: u32,
+        block: *const u16,
+        symbols: usize,
     ) -> u64;
 }
 
@@ -48,6 +65,33 @@ pub fn derive(plan: &Plan, length: usize, source: &[u16], keys: &mut [u16]) -> C
             source.len(),
             keys.as_mut_ptr(),
             keys.len(),
+        )
+    })
+}
+
+pub fn upload(q: u16, length: usize, a: &[u16], key: &[u16], out: &mut [u16]) -> Code {
+    unpack(unsafe { kortyghai_upload(q, length, a.as_ptr(), a.len(), key.as_ptr(), key.len(), out.as_mut_ptr(), out.len()) })
+}
+
+pub fn unmask(q: u16, length: usize, a: &[u16], key: &[u16], out: &mut [u16]) -> Code {
+    unpack(unsafe { kortyghai_unmask(q, length, a.as_ptr(), a.len(), key.as_ptr(), key.len(), out.as_mut_ptr(), out.len()) })
+}
+
+pub fn count(r: &mut Relay, sender: usize, said: u32, block: &[u16]) -> Code {
+    unpack(unsafe {
+        kortyghai_count_frame(
+            r.clusters,
+            r.size,
+            r.q,
+            r.length,
+            r.cluster,
+            r.number,
+            &mut r.reported,
+            &mut r.sums,
+            sender,
+            said,
+            block.as_ptr(),
+            block.len(),
         )
     })
 }

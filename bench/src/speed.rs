@@ -18,7 +18,7 @@ extern "C" {
 }
 
 /// The processor time of this thread (Linux, x86-64): the turns of other programs on the machine don't count.
-fn processor_time() -> f64 {
+pub fn processor_time() -> f64 {
     let mut time = Timespec { seconds: 0, nanoseconds: 0 };
     assert_eq!(unsafe { clock_gettime(3, &mut time) }, 0);
     time.seconds as f64 + time.nanoseconds as f64 * 1e-9

@@ -1,0 +1,332 @@
+//! Uploads, frames and keys in plain Rust, with the same checks and sums, and their times beside those of the proved ones.
+
+use crate::speed::processor_time;
+use crate::tally::Seeded;
+use crate::{proved, Code, Plan};
+use std::hint::black_box;
+
+/// What the proved functions may take, of the plain ones' time.
+const BAR: f64 = 1.2;
+
+/// A relay's round.
+#[derive(Clone, PartialEq, Debug)]
+pub struct Relay {
+    pub clusters: usize,
+    pub size: usize,
+    pub q: u16,
+    pub length: usize,
+    pub cluster: usize,
+    pub number: u32,
+    pub reported: u16,
+    pub sums: [u16; 64],
+}
+
+impl Relay {
+    pub fn open(clusters: usize, size: usize, q: u16, length: usize) -> Relay {
+        Relay { clusters, size, q, length, cluster: 1, number: 7, reported: 0, sums: [0; 64] }
+    }
+}
+
+/// By 2, then by odd numbers up to the root.
+fn is_prime(q: u16) -> bool {
+    if q < 2 || q % 2 == 0 {
+        return q == 2;
+    }
+    let n = q as u32;
+    let mut d = 3;
+    while d * d <= n {
+        if n % d == 0 {
+            return false;
+        }
+        d += 2;
+    }
+    true
+}
+
+fn all_below(q: u16, symbols: &[u16]) -> bool {
+    symbols.iter().all(|&x| x < q)
+}
+
+fn add(q: u16, a: u16, b: u16) -> u16 {
+    let sum = a as u32 + b as u32;
+    (if sum >= q as u32 { sum - q as u32 } else { sum }) as u16
+}
+
+/// "Upload, and taking a key off: 2, 9, 4, 3."
+fn block_code(q: u16, length: usize, a: &[u16], b: &[u16], out: &[u16]) -> u16 {
+    if !is_prime(q) {
+        return 2;
+    }
+    if !(1..=64).contains(&length) {
+        return 9;
+    }
+    if a.len() != length || b.len() != length || out.len() != length {
+        return 4;
+    }
+    if !all_below(q, a) || !all_below(q, b) {
+        return 3;
+    }
+    0
+}
+
+#[inline(never)]
+pub fn upload(q: u16, length: usize, readings: &[u16], key: &[u16], out: &mut [u16]) -> Code {
+    let code = block_code(q, length, readings, key, out);
+    if code == 0 {
+        for ((o, &a), &b) in out.iter_mut().zip(readings).zip(key) {
+            *o = add(q, a, b);
+        }
+    }
+    Code(code, 0, 0)
+}
+
+#[inline(never)]
+pub fn unmask(q: u16, length: usize, upload: &[u16], key: &[u16], out: &mut [u16]) -> Code {
+    let code = block_code(q, length, upload, key, out);
+    if code == 0 {
+        for ((o, &a), &b) in out.iter_mut().zip(upload).zip(key) {
+            *o = add(q, a, q - b);
+        }
+    }
+    Code(code, 0, 0)
+}
+
+/// A state: "1, 2, 9, 8, 3". A frame: "8, 4, 3, 14, 11."
+fn frame_code(r: &Relay, sender: usize, said: u32, block: &[u16]) -> u16 {
+    let (u, v) = (r.clusters, r.size);
+    if !(1..=8).contains(&u) || !(1..=8).contains(&v) || u * v > 16 {
+        return 1;
+    }
+    if !is_prime(r.q) {
+        return 2;
+    }
+    if !(1..=64).contains(&r.length) {
+        return 9;
+    }
+    if !(1..=u).contains(&r.cluster) || r.reported >> v != 0 {
+        return 8;
+    }
+    if !all_below(r.q, &r.sums[..r.length]) || r.sums[r.length..].iter().any(|&x| x != 0) {
+        return 3;
+    }
+    if !(1..=v).contains(&sender) {
+        return 8;
+    }
+    if block.len() != r.length {
+        return 4;
+    }
+    if !all_below(r.q, block) {
+        return 3;
+    }
+    if said != r.number {
+        return 14;
+    }
+    if r.reported >> (sender - 1) & 1 == 1 {
+        return 11;
+    }
+    0
+}
+
+#[inline(never)]
+pub fn count(r: &mut Relay, sender: usize, said: u32, block: &[u16]) -> Code {
+    let code = frame_code(r, sender, said, block);
+    if code == 0 {
+        r.reported |= 1 << (sender - 1);
+        for (sum, &x) in r.sums.iter_mut().zip(block) {
+            *sum = add(r.q, *sum, x);
+        }
+    }
+    Code(code, 0, 0)
+}
+
+/// Individual keys, the vet's part left out: "9, 4 for any block, 3."
+fn key_code(plan: &Plan, length: usize, source: &[u16], out: &[u16]) -> u16 {
+    if !(1..=64).contains(&length) {
+        return 9;
+    }
+    if source.len() != length * plan.rate || out.len() != plan.clusters * plan.size * length {
+        return 4;
+    }
+    if !all_below(plan.q, source) {
+        return 3;
+    }
+    0
+}
+
+/// With a remainder after each product, as the proved function has it.
+#[inline(never)]
+fn keys_by_steps(plan: &Plan, length: usize, source: &[u16], out: &mut [u16]) {
+    assert_eq!(key_code(plan, length, source, out), 0);
+    let q = plan.q as u32;
+    for (keys, row) in out.chunks_mut(length).zip(plan.table.chunks(plan.rate)) {
+        for (key, symbols) in keys.iter_mut().zip(source.chunks(plan.rate)) {
+            *key = row.iter().zip(symbols).fold(0, |sum, (&a, &b)| (sum + a as u32 * b as u32) % q) as u16;
+        }
+    }
+}
+
+/// With one remainder a symbol.
+#[inline(never)]
+fn keys_at_once(plan: &Plan, length: usize, source: &[u16], out: &mut [u16]) {
+    assert_eq!(key_code(plan, length, source, out), 0);
+    let q = plan.q as u64;
+    for (keys, row) in out.chunks_mut(length).zip(plan.table.chunks(plan.rate)) {
+        for (key, symbols) in keys.iter_mut().zip(source.chunks(plan.rate)) {
+            *key = (row.iter().zip(symbols).map(|(&a, &b)| a as u64 * b as u64).sum::<u64>() % q) as u16;
+        }
+    }
+}
+
+/// The least time of one call, of several turns; each turn makes many calls.
+fn least<const N: usize>(calls: usize, turns: usize, mut f: [&mut dyn FnMut(usize); N]) -> [f64; N] {
+    let mut times = [f64::MAX; N];
+    for _ in 0..turns {
+        for (time, f) in times.iter_mut().zip(f.iter_mut()) {
+            let start = processor_time();
+            f(calls);
+            *time = time.min((processor_time() - start) / calls as f64);
+        }
+    }
+    times
+}
+
+fn line(name: &str, unit: f64, proved: f64, plain: f64) -> bool {
+    println!("{name:44}{:12.2}{:11.2}{:8.2}", proved * unit, plain * unit, proved / plain);
+    proved <= BAR * plain
+}
+
+fn drawn(s: &mut Seeded, q: u16, n: usize) -> Vec<u16> {
+    (0..n).map(|_| s.below(q as usize) as u16).collect()
+}
+
+fn measure_blocks(s: &mut Seeded, q: u16) -> bool {
+    let (readings, key) = (drawn(s, q, 64), drawn(s, q, 64));
+    let (mut a, mut b) = (vec![0u16; 64], vec![0u16; 64]);
+    let [x, y] = least(20_000, 15, [
+        &mut |n| (0..n).for_each(|_| {
+            black_box(proved::upload(black_box(q), 64, black_box(&readings), &key, black_box(&mut a)));
+        }),
+        &mut |n| (0..n).for_each(|_| {
+            black_box(upload(black_box(q), 64, black_box(&readings), &key, black_box(&mut b)));
+        }),
+    ]);
+    assert_eq!(a, b);
+    let met = line(&format!("upload, q {q}, ns a symbol"), 1e9 / 64.0, x, y);
+    let sent = a.clone();
+    let [x, y] = least(20_000, 15, [
+        &mut |n| (0..n).for_each(|_| {
+            black_box(proved::unmask(black_box(q), 64, black_box(&sent), &key, black_box(&mut a)));
+        }),
+        &mut |n| (0..n).for_each(|_| {
+            black_box(unmask(black_box(q), 64, black_box(&sent), &key, black_box(&mut b)));
+        }),
+    ]);
+    assert_eq!((&a, &b), (&readings, &readings));
+    line(&format!("unmask, q {q}, ns a symbol"), 1e9 / 64.0, x, y) && met
+}
+
+/// Eight frames of 64 symbols into a round, then the round anew.
+fn frames(n: usize, q: u16, block: &[u16], count: impl Fn(&mut Relay, usize, u32, &[u16]) -> Code) {
+    for _ in 0..n / 8 {
+        let mut relay = Relay::open(2, 8, black_box(q), 64);
+        for sender in 1..9 {
+            assert_eq!(black_box(count(black_box(&mut relay), sender, 7, black_box(block))), Code(0, 0, 0));
+        }
+    }
+}
+
+fn measure_frames(s: &mut Seeded, q: u16) -> bool {
+    let block = drawn(s, q, 64);
+    let [x, y] = least(20_000, 15, [&mut |n| frames(n, q, &block, proved::count), &mut |n| frames(n, q, &block, count)]);
+    println!("{:44}{:12.2}{:11.2}", format!("frames of 64, q {q}, million a second"), 1e-6 / x, 1e-6 / y);
+    line(&format!("frames of 64, q {q}, ns a frame"), 1e9, x, y)
+}
+
+/// Derivation less the vet's share of it, which the proved function makes first.
+fn measure_keys(s: &mut Seeded) -> bool {
+    let plan = Plan::made(8, 2, 0, 65521, 2);
+    let source = drawn(s, plan.q, 64 * plan.rate);
+    let (mut a, mut b, mut c) = (vec![0u16; 1024], vec![0u16; 1024], vec![0u16; 1024]);
+    let [both, vet, steps, once] = least(200, 25, [
+        &mut |n| (0..n).for_each(|_| assert_eq!(proved::derive(black_box(&plan), 64, black_box(&source), black_box(&mut a)), Code(0, 0, 0))),
+        &mut |n| (0..n).for_each(|_| assert_eq!(proved::vet(black_box(&plan)), Code(0, 0, 0))),
+        &mut |n| (0..n).for_each(|_| keys_by_steps(black_box(&plan), 64, black_box(&source), black_box(&mut b))),
+        &mut |n| (0..n).for_each(|_| keys_at_once(black_box(&plan), 64, black_box(&source), black_box(&mut c))),
+    ]);
+    assert_eq!((&a, &a), (&b, &c));
+    let met = line("keys, remainder each product, ns a symbol", 1e9 / 1024.0, both - vet, steps);
+    line("keys, one remainder a symbol, ns a symbol", 1e9 / 1024.0, both - vet, once);
+    met
+}
+
+/// Whether every bar is met. The second line of keys has none: it says what one remainder a symbol would be worth.
+pub fn measure() -> bool {
+    let mut s = Seeded(11);
+    println!("{:44}{:>12}{:>11}{:>8}", "", "proved", "plain", "ratio");
+    let mut met = true;
+    for q in [65521, 5] {
+        met &= measure_blocks(&mut s, q);
+        met &= measure_frames(&mut s, q);
+    }
+    met &= measure_keys(&mut s);
+    println!("bar (ratio at most {BAR}): {}", if met { "met" } else { "NOT met" });
+    met
+}
+
+/// A call with some things wrong; how many answers or buffers differ.
+pub fn compare(s: &mut Seeded, calls: usize) -> usize {
+    let (mut differ, mut numbers) = (0, [0usize; 15]);
+    for t in 0..calls {
+        let q = [2, 3, 5, 65521, 65521, 65521, 9, 1][s.below(8)];
+        let length = [1, 5, 63, 64, 64, 64, 0, 65][s.below(8)];
+        let wrong = |s: &mut Seeded| (s.below(10) == 0) as usize;
+        let (n, m) = (length + wrong(s), length + wrong(s));
+        let (mut a, mut b) = (drawn(s, q, n), drawn(s, q, length));
+        for x in [&mut a, &mut b] {
+            if wrong(s) == 1 && !x.is_empty() {
+                x[0] = q;
+            }
+        }
+        let (mut x, mut y) = (vec![7u16; m], vec![7u16; m]);
+        let (one, two) = match t % 2 {
+            0 => (proved::upload(q, length, &a, &b, &mut x), upload(q, length, &a, &b, &mut y)),
+            _ => (proved::unmask(q, length, &a, &b, &mut x), unmask(q, length, &a, &b, &mut y)),
+        };
+        numbers[two.0 as usize] += 1;
+        differ += (one != two || x != y) as usize;
+    }
+    println!("uploads and unmasks: {calls} calls; {}; {differ} differ", crate::tally::counted(&numbers));
+    differ + compare_frames(s, calls)
+}
+
+fn compare_frames(s: &mut Seeded, calls: usize) -> usize {
+    let (mut differ, mut numbers) = (0, [0usize; 15]);
+    let mut relay = Relay::open(2, 8, 65521, 64);
+    for t in 0..calls {
+        if t % 16 == 0 {
+            relay = Relay::open([2, 1, 2, 2, 9][s.below(5)], [8, 8, 3, 9][s.below(4)], [65521, 5, 2, 4][s.below(4)], [64, 64, 1, 65, 0][s.below(5)]);
+        }
+        let mut given = relay.clone();
+        match s.below(16) {
+            0 => given.reported |= 1 << s.below(16),
+            1 => given.sums[s.below(64)] = [1, relay.q][s.below(2)],
+            2 => given.cluster = [0, 1, 3][s.below(3)],
+            _ => {}
+        }
+        let wrong = (s.below(10) == 0) as usize;
+        let mut block = drawn(s, relay.q.max(1), relay.length + wrong);
+        if s.below(10) == 0 && !block.is_empty() {
+            block[0] = relay.q;
+        }
+        let (sender, said) = (s.below(10), 7 + (s.below(10) == 0) as u32);
+        let (mut a, mut b) = (given.clone(), given.clone());
+        let (one, two) = (proved::count(&mut a, sender, said, &block), count(&mut b, sender, said, &block));
+        numbers[two.0 as usize] += 1;
+        differ += (one != two || a != b) as usize;
+        if two.0 == 0 {
+            relay = b;
+        }
+    }
+    println!("frames: {calls} calls; {}; {differ} differ", crate::tally::counted(&numbers));
+    differ
+}
