@@ -135,7 +135,6 @@ static void derive_keys(void) {
     CHECK(same(keys, wanted, 4) && marked(keys + 4, 1));
 }
 
-#ifdef KORTYGHAI_BLOCKS
 static void blocks(void) {
     /* the four users as four positions of one block */
     const uint16_t readings[4] = {3, 4, 0, 2}, key[4] = {1, 2, 2, 0}, wanted[4] = {4, 1, 2, 2}, bad[4] = {1, 2, 2, 5};
@@ -155,7 +154,6 @@ static void blocks(void) {
     CHECK(is(kortyghai_unmask(5, 4, upload, 4, key, 4, back, 4), 0, 0, 0));
     CHECK(same(back, readings, 4) && marked(back + 4, 1));
 }
-#endif
 
 int main(void) {
     vet();
@@ -163,9 +161,7 @@ int main(void) {
     read_record();
     make_table();
     derive_keys();
-#ifdef KORTYGHAI_BLOCKS
     blocks();
-#endif
     printf("%d tests, %d wrong\n", tests, wrong);
     return wrong > 0;
 }

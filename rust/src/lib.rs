@@ -158,7 +158,6 @@ pub fn derive_keys(plan: &Plan, table: &[u16], length: usize, source: &[u16]) ->
 /// L = `length` symbols.
 ///
 /// Refuses, the first that holds: 2, 9, 4, 3.
-#[cfg(feature = "blocks")]
 pub fn upload_into(q: u16, length: usize, readings: &[u16], key: &[u16], out: &mut [u16]) -> Result<(), Refusal> {
     Refusal::unpack(unsafe {
         raw::kortyghai_upload(q, length, readings.as_ptr(), readings.len(), key.as_ptr(), key.len(), out.as_mut_ptr(), out.len())
@@ -167,7 +166,6 @@ pub fn upload_into(q: u16, length: usize, readings: &[u16], key: &[u16], out: &m
 
 /// Takes a key off its upload, into a lent buffer: upload minus key, position by position, modulo q, which gives the readings
 /// back. The same lengths and refusals.
-#[cfg(feature = "blocks")]
 pub fn unmask_into(q: u16, length: usize, upload: &[u16], key: &[u16], out: &mut [u16]) -> Result<(), Refusal> {
     Refusal::unpack(unsafe {
         raw::kortyghai_unmask(q, length, upload.as_ptr(), upload.len(), key.as_ptr(), key.len(), out.as_mut_ptr(), out.len())
@@ -175,7 +173,6 @@ pub fn unmask_into(q: u16, length: usize, upload: &[u16], key: &[u16], out: &mut
 }
 
 /// A user's upload. Refuses, the first that holds: 2, 9, 4, 3.
-#[cfg(feature = "blocks")]
 pub fn upload(q: u16, readings: &[u16], key: &[u16]) -> Result<Vec<u16>, Refusal> {
     let mut out = vec![0; readings.len()];
     upload_into(q, readings.len(), readings, key, &mut out)?;
@@ -183,7 +180,6 @@ pub fn upload(q: u16, readings: &[u16], key: &[u16]) -> Result<Vec<u16>, Refusal
 }
 
 /// The readings of an upload. Refuses, the first that holds: 2, 9, 4, 3.
-#[cfg(feature = "blocks")]
 pub fn unmask(q: u16, upload: &[u16], key: &[u16]) -> Result<Vec<u16>, Refusal> {
     let mut out = vec![0; upload.len()];
     unmask_into(q, upload.len(), upload, key, &mut out)?;

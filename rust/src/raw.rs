@@ -21,7 +21,6 @@ extern "C" {
     ) -> u64;
 }
 
-#[cfg(feature = "blocks")]
 extern "C" {
     pub fn kortyghai_upload(
         q: u16,

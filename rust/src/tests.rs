@@ -131,7 +131,6 @@ fn uploads_sum_to_the_total() {
     assert_eq!(uploads.iter().sum::<u16>() % 5, 4);
 }
 
-#[cfg(feature = "blocks")]
 #[test]
 fn blocks_there_and_back() {
     let (readings, key) = ([3, 4, 0, 2], [1, 2, 2, 0]);
