@@ -91,18 +91,18 @@ unfolding isPrime allTo
 limit-too-large out = refl
 
 -- "U 2, V 1, T 0, R 1, q 5, rows (0), (0): 7, gang 0, watcher 1"; "rows (1), (1): 6, column 1"
-pub bare-pair : verdict (plan 2 1 0 1 5) (0 ∷ 0 ∷ []) ≡ record { number = 7; first = 0; second = 1 }
+pub zero-rows : verdict (plan 2 1 0 1 5) (0 ∷ 0 ∷ []) ≡ record { number = 7; first = 0; second = 1 }
 unfolding isPrime allTo allBelow columnSum sumTo tab pairs observers picked joinTo howMany inCoalition firstHit dependent baseTable clusterSum membersFrom reducedBy openMask testedMask pivotOf scaled fused cleared eachRow eliminatedFrom pivotsFrom inverseBelow
-bare-pair = sym (walk-verdict (plan 2 1 0 1 5) (0 ∷ 0 ∷ []) refl)
+zero-rows = sym (walk-verdict (plan 2 1 0 1 5) (0 ∷ 0 ∷ []) refl)
 
 pub first-column : verdict (plan 2 1 0 1 5) (1 ∷ 1 ∷ []) ≡ record { number = 6; first = 1; second = 0 }
 unfolding isPrime allTo allBelow columnSum sumTo tab
 first-column = refl
 
 -- "U 1, V 1, T 0, R 1, q 5, row (0): 7, gang 0, watcher 1"
-pub bare-user : verdict (plan 1 1 0 1 5) (0 ∷ []) ≡ record { number = 7; first = 0; second = 1 }
+pub one-user : verdict (plan 1 1 0 1 5) (0 ∷ []) ≡ record { number = 7; first = 0; second = 1 }
 unfolding isPrime allTo allBelow columnSum sumTo tab pairs observers picked joinTo howMany inCoalition firstHit dependent baseTable clusterSum membersFrom reducedBy openMask testedMask pivotOf scaled fused cleared eachRow eliminatedFrom pivotsFrom inverseBelow
-bare-user = sym (walk-verdict (plan 1 1 0 1 5) (0 ∷ []) refl)
+one-user = sym (walk-verdict (plan 1 1 0 1 5) (0 ∷ []) refl)
 
 -- "q 9 is refused 2"; "γ 5 with q 5 is refused 3"; "modulo 5 the inverse of 3 is 2"
 pub nine : firstOf (planChecks (plan 2 2 1 3 9)) ≡ code 2

@@ -5,9 +5,9 @@ use mathlib.Core.List.{List, [], _∷_}
 use lib.Dec.{eqb}
 use lib.ListN.{length}
 use Rattle.refusals.specs.declared.Code.{Code}
-use Rattle.refusals.specs.Codes.{code}
+use Rattle.refusals.specs.Codes.{code, firstOf, ifAccepted}
 use Rattle.vetting.specs.declared.Plan.{Plan}
-use Rattle.vetting.specs.Records.{readChecks}
+use Rattle.vetting.specs.Records.{planRead, tableRead, readChecks, padded}
 
 -- U, V, T, R and q
 abbrev pub countsOf : Plan → List ℕ
@@ -16,3 +16,13 @@ countsOf P = P .clusters ∷ P .size ∷ P .limit ∷ P .rate ∷ P .q ∷ []
 -- 4 where the lent counts have not exactly five places, before all else; then the reader's own checks
 abbrev pub entryChecks : List ℕ → List ℕ → List ℕ → List (Bool × Code)
 entryChecks bytes table counts = (not (eqb (length counts) 5), code 4) ∷ readChecks bytes table
+
+abbrev pub entryCode : List ℕ → List ℕ → List ℕ → Code
+entryCode bytes table counts = firstOf (entryChecks bytes table counts)
+
+-- what the lent table and the lent counts hold after the call
+abbrev pub entryTable : List ℕ → List ℕ → List ℕ → List ℕ
+entryTable bytes table counts = ifAccepted (entryCode bytes table counts) (padded (tableRead bytes)) table
+
+abbrev pub entryCounts : List ℕ → List ℕ → List ℕ → List ℕ
+entryCounts bytes table counts = ifAccepted (entryCode bytes table counts) (countsOf (planRead bytes)) counts

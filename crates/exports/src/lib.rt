@@ -2,19 +2,16 @@
 ghost use mathlib.Core.Path.{_≡_};
 ghost use Prim.Native.Nat.{_<_};
 ghost use lib.ListN.{length};
-ghost use Rattle.refusals.specs.Codes.{firstOf, ifAccepted};
 ghost use Rattle.vetting.specs.Plans.{plan, plannedCode};
 ghost use Rattle.vetting.specs.Verdict.{verdict};
-ghost use Rattle.vetting.specs.Maker.{madeTable, makerChecks};
-ghost use Rattle.vetting.specs.Keys.{keysOf, keyChecks};
-ghost use Rattle.rounds.specs.Blocks.{uploadOf, unmaskedOf, blockChecks};
+ghost use Rattle.vetting.specs.Maker.{makerCode, makerTable};
+ghost use Rattle.vetting.specs.Keys.{keyCode, keysAfter};
+ghost use Rattle.rounds.specs.Blocks.{blockCode, uploadAfter, unmaskAfter};
 ghost use Rattle.rounds.specs.Ledger.{frame};
-ghost use Rattle.rounds.specs.Rounds.{oneOf, stepCode, stepped};
 ghost use Rattle.exports.specs.Packed.{packed};
-ghost use Rattle.exports.specs.States.{stateOf};
-ghost use Rattle.vetting.specs.Records.{planRead, tableRead, padded};
+ghost use Rattle.exports.specs.States.{frameCode, frameNext};
 ghost use Rattle.vetting.specs.Program.{programCode};
-ghost use Rattle.exports.specs.Reading.{countsOf, entryChecks};
+ghost use Rattle.exports.specs.Reading.{countsOf, entryCode, entryTable, entryCounts};
 use arithmetic::Symbol;
 use refusals::Code;
 use refusals::Refusal;
@@ -75,7 +72,8 @@ pub extern "C" fn kortyghai_make_table(
     generator: Symbol,
     table: &mut [Symbol],
 ) -> u64
-    ensures { λ r. ⌜ (r ≡ packed (firstOf (makerChecks clusters size limit q generator (now (table .entry))))) × (now (table .exit) ≡ ifAccepted (firstOf (makerChecks clusters size limit q generator (now (table .entry)))) (madeTable clusters size limit q generator) (now (table .entry))) ⌝ }
+    ensures code { λ r. ⌜ r ≡ packed (makerCode clusters size limit q generator (now (table .entry))) ⌝ }
+    ensures table { λ _. ⌜ now (table .exit) ≡ makerTable clusters size limit q generator (now (table .entry)) ⌝ }
 {
     pack(planned_code(vetting::make_table(clusters, size, limit, q, generator, table)))
 }
@@ -93,7 +91,8 @@ pub extern "C" fn kortyghai_derive_keys(
     source: &[Symbol],
     keys: &mut [Symbol],
 ) -> u64
-    ensures { λ r. ⌜ (r ≡ packed (firstOf (keyChecks (plan clusters size limit rate q) (now (table .entry)) length (now (source .entry)) (now (keys .entry))))) × (now (keys .exit) ≡ ifAccepted (firstOf (keyChecks (plan clusters size limit rate q) (now (table .entry)) length (now (source .entry)) (now (keys .entry)))) (keysOf (plan clusters size limit rate q) (now (table .entry)) length (now (source .entry))) (now (keys .entry))) ⌝ }
+    ensures code { λ r. ⌜ r ≡ packed (keyCode (plan clusters size limit rate q) (now (table .entry)) length (now (source .entry)) (now (keys .entry))) ⌝ }
+    ensures keys { λ _. ⌜ now (keys .exit) ≡ keysAfter (plan clusters size limit rate q) (now (table .entry)) length (now (source .entry)) (now (keys .entry)) ⌝ }
 {
     let plan = Plan {
         clusters,
@@ -114,7 +113,8 @@ pub extern "C" fn kortyghai_upload(
     key: &[Symbol],
     out: &mut [Symbol],
 ) -> u64
-    ensures { λ r. ⌜ (r ≡ packed (firstOf (blockChecks q length (now (readings .entry)) (now (key .entry)) (now (out .entry))))) × (now (out .exit) ≡ ifAccepted (firstOf (blockChecks q length (now (readings .entry)) (now (key .entry)) (now (out .entry)))) (uploadOf q length (now (readings .entry)) (now (key .entry))) (now (out .entry))) ⌝ }
+    ensures code { λ r. ⌜ r ≡ packed (blockCode q length (now (readings .entry)) (now (key .entry)) (now (out .entry))) ⌝ }
+    ensures out { λ _. ⌜ now (out .exit) ≡ uploadAfter q length (now (readings .entry)) (now (key .entry)) (now (out .entry)) ⌝ }
 {
     pack(verdict_code(rounds::upload(q, length, readings, key, out)))
 }
@@ -128,7 +128,8 @@ pub extern "C" fn kortyghai_unmask(
     key: &[Symbol],
     out: &mut [Symbol],
 ) -> u64
-    ensures { λ r. ⌜ (r ≡ packed (firstOf (blockChecks q length (now (upload .entry)) (now (key .entry)) (now (out .entry))))) × (now (out .exit) ≡ ifAccepted (firstOf (blockChecks q length (now (upload .entry)) (now (key .entry)) (now (out .entry)))) (unmaskedOf q length (now (upload .entry)) (now (key .entry))) (now (out .entry))) ⌝ }
+    ensures code { λ r. ⌜ r ≡ packed (blockCode q length (now (upload .entry)) (now (key .entry)) (now (out .entry))) ⌝ }
+    ensures out { λ _. ⌜ now (out .exit) ≡ unmaskAfter q length (now (upload .entry)) (now (key .entry)) (now (out .entry)) ⌝ }
 {
     pack(verdict_code(rounds::unmask(q, length, upload, key, out)))
 }
@@ -149,9 +150,9 @@ pub extern "C" fn kortyghai_count_frame(
     said: u32,
     block: &[Symbol],
 ) -> u64
-    ensures answer { λ r. ⌜ r ≡ packed (stepCode size (oneOf clusters cluster) (stateOf clusters size q length number (now (reported .entry)) (now (sums .entry))) (frame sender said (now (block .entry)))) ⌝ }
-    ensures bits { λ _. ⌜ now (reported .exit) ≡ stepped size (oneOf clusters cluster) (stateOf clusters size q length number (now (reported .entry)) (now (sums .entry))) (frame sender said (now (block .entry))) .reported ⌝ }
-    ensures totals { λ _. ⌜ now (sums .exit) ≡ stepped size (oneOf clusters cluster) (stateOf clusters size q length number (now (reported .entry)) (now (sums .entry))) (frame sender said (now (block .entry))) .sums ⌝ }
+    ensures answer { λ r. ⌜ r ≡ packed (frameCode clusters size q length cluster number (now (reported .entry)) (now (sums .entry)) (frame sender said (now (block .entry)))) ⌝ }
+    ensures bits { λ _. ⌜ now (reported .exit) ≡ frameNext clusters size q length cluster number (now (reported .entry)) (now (sums .entry)) (frame sender said (now (block .entry))) .reported ⌝ }
+    ensures totals { λ _. ⌜ now (sums .exit) ≡ frameNext clusters size q length cluster number (now (reported .entry)) (now (sums .entry)) (frame sender said (now (block .entry))) .sums ⌝ }
 {
     let before = *sums;
     let round = Round {
@@ -204,9 +205,9 @@ pub extern "C" fn kortyghai_read_record(
     table: &mut [Symbol],
     counts: &mut [u16],
 ) -> u64
-    ensures code { λ r. ⌜ r ≡ packed (firstOf (entryChecks (now (bytes .entry)) (now (table .entry)) (now (counts .entry)))) ⌝ }
-    ensures table { λ _. ⌜ now (table .exit) ≡ ifAccepted (firstOf (entryChecks (now (bytes .entry)) (now (table .entry)) (now (counts .entry)))) (padded (tableRead (now (bytes .entry)))) (now (table .entry)) ⌝ }
-    ensures counts { λ _. ⌜ now (counts .exit) ≡ ifAccepted (firstOf (entryChecks (now (bytes .entry)) (now (table .entry)) (now (counts .entry)))) (countsOf (planRead (now (bytes .entry)))) (now (counts .entry)) ⌝ }
+    ensures code { λ r. ⌜ r ≡ packed (entryCode (now (bytes .entry)) (now (table .entry)) (now (counts .entry))) ⌝ }
+    ensures table { λ _. ⌜ now (table .exit) ≡ entryTable (now (bytes .entry)) (now (table .entry)) (now (counts .entry)) ⌝ }
+    ensures counts { λ _. ⌜ now (counts .exit) ≡ entryCounts (now (bytes .entry)) (now (table .entry)) (now (counts .entry)) ⌝ }
 {
     if counts.len() != COUNTS {
         return pack(code_of(Refusal::WrongLength));

@@ -10,7 +10,7 @@ use Rattle.rounds.specs.declared.Round.{Round}
 use Rattle.rounds.specs.declared.RelayRound.{RelayRound}
 use Rattle.rounds.specs.declared.ServerRound.{ServerRound}
 use Rattle.rounds.specs.Ledger.{Frame}
-use Rattle.rounds.specs.Rounds.{oneOf, after, stepCode, stepped, answersOf, runOf, relayKnown, relayRound, serverRound}
+use Rattle.rounds.specs.Rounds.{oneOf, after, stepCode, stepped, answersOf, runOf, relayKnown, relayRound, relayCode, relayNext, serverRound, serverCode, serverNext}
 
 -- ---- a step keeps the plan's counts
 
@@ -30,13 +30,6 @@ module _ (senders : ℕ) (known : Bool) (R : Round) (f : Frame) where
   step-size = same-size (eqb (stepCode senders known R f .number) 0)
 
 -- ---- a relay
-
--- what its promise says of a call: the answer, and the round handed back
-abbrev pub relayCode : RelayRound → Frame → Code
-relayCode R f = stepCode (R .round .size) (relayKnown R) (R .round) f
-
-abbrev pub relayNext : RelayRound → Frame → RelayRound
-relayNext R f = relayRound (R .cluster) (stepped (R .round .size) (relayKnown R) (R .round) f)
 
 unfoldable pub relayRun : RelayRound → List Frame → RelayRound
 relayRun R [] = R
@@ -67,12 +60,6 @@ relay-answers R (f ∷ frames) =
     (step-size (R .round .size) (relayKnown R) (R .round) f) (next-known R f))
 
 -- ---- the server
-
-abbrev pub serverCode : ServerRound → Frame → Code
-serverCode R f = stepCode (R .round .clusters) true (R .round) f
-
-abbrev pub serverNext : ServerRound → Frame → ServerRound
-serverNext R f = serverRound (stepped (R .round .clusters) true (R .round) f)
 
 unfoldable pub serverRun : ServerRound → List Frame → ServerRound
 serverRun R [] = R

@@ -5,7 +5,7 @@ use mathlib.Core.List.{List, [], _∷_}
 use lib.Dec.{leb, eqb}
 use lib.ListN.{length}
 use Rattle.refusals.specs.declared.Code.{Code}
-use Rattle.refusals.specs.Codes.{code}
+use Rattle.refusals.specs.Codes.{code, firstOf, ifAccepted}
 use Rattle.arithmetic.specs.Primes.{isPrime, allBelow}
 use Rattle.arithmetic.specs.Field.{sumOf, differenceOf}
 use Rattle.matrices.specs.Linear.{at}
@@ -31,3 +31,13 @@ blockChecks q L a b out =
     ∷ (not (eqb (length a) L && eqb (length b) L && eqb (length out) L), code 4)
     ∷ (not (allBelow q a && allBelow q b), code 3)
     ∷ []
+
+abbrev pub blockCode : ℕ → ℕ → List ℕ → List ℕ → List ℕ → Code
+blockCode q L a b out = firstOf (blockChecks q L a b out)
+
+-- what the lent block holds after an upload, and after a key was taken off
+abbrev pub uploadAfter : ℕ → ℕ → List ℕ → List ℕ → List ℕ → List ℕ
+uploadAfter q L readings key out = ifAccepted (blockCode q L readings key out) (uploadOf q L readings key) out
+
+abbrev pub unmaskAfter : ℕ → ℕ → List ℕ → List ℕ → List ℕ → List ℕ
+unmaskAfter q L upload key out = ifAccepted (blockCode q L upload key out) (unmaskedOf q L upload key) out

@@ -45,6 +45,13 @@ opened clusters size q L number =
 abbrev pub noRound : Round
 noRound = opened 0 0 0 0 0
 
+abbrev pub openCode : ℕ → ℕ → ℕ → ℕ → Bool → Code
+openCode clusters size q L known = firstOf (openChecks clusters size q L known)
+
+-- the round that is handed back
+abbrev pub openRound : ℕ → ℕ → ℕ → ℕ → Bool → ℕ → Round
+openRound clusters size q L known number = ifAccepted (openCode clusters size q L known) (opened clusters size q L number) noRound
+
 -- ---- a state that is handed in: "in the order 1, 2, 9, 8, 3; a roll bit that is no sender's is 8, a sum past position L other than 0 is 3"
 
 abbrev pub sumsFit : ℕ → ℕ → List ℕ → Bool
@@ -106,6 +113,13 @@ module _ (senders : ℕ) (known : Bool) where
   abbrev pub stepped : Round → Frame → Round
   stepped R f = ifAccepted (stepCode R f) (after R (f ∷ [])) R
 
+  abbrev pub giveCode : Round → List ℕ → Code
+  giveCode R out = firstOf (giveChecks R [] out)
+
+  -- what the lent buffer holds after the sums were asked for
+  abbrev pub sumsAfter : Round → List ℕ → List ℕ
+  sumsAfter R out = ifAccepted (giveCode R out) (take (R .length) (R .sums)) out
+
   -- the answers to a list of frames, and the round after them, step by step
   unfoldable pub answersOf : Round → List Frame → List Code
   answersOf R [] = []
@@ -128,15 +142,45 @@ module _ (senders : ℕ) (known : Bool) where
   ledgerOf R ledger [] = ledger
   ledgerOf R ledger (f ∷ frames) = ledgerOf R (noted R ledger f) frames
 
--- ---- the two kinds of round
-
--- a relay hears the V users of its cluster, and its own number is one of 1 to U
-abbrev pub relayKnown : RelayRound → Bool
-relayKnown R = oneOf (R .round .clusters) (R .cluster)
+-- ---- a relay's round: it hears the V users of its cluster, and its own number is one of 1 to U
 
 abbrev pub relayRound : ℕ → Round → RelayRound
 relayRound cluster R = record { cluster = cluster; round = R }
 
--- the server hears the U relays, and has no number of its own
+abbrev pub relayOpened : ℕ → ℕ → ℕ → ℕ → ℕ → ℕ → RelayRound
+relayOpened clusters size q L cluster number =
+    ifAccepted (openCode clusters size q L (oneOf clusters cluster)) (relayRound cluster (opened clusters size q L number)) (relayRound 0 noRound)
+
+abbrev pub relayKnown : RelayRound → Bool
+relayKnown R = oneOf (R .round .clusters) (R .cluster)
+
+-- a call of `count`: its answer, and the round that it hands back
+abbrev pub relayCode : RelayRound → Frame → Code
+relayCode R f = stepCode (R .round .size) (relayKnown R) (R .round) f
+
+abbrev pub relayNext : RelayRound → Frame → RelayRound
+relayNext R f = relayRound (R .cluster) (stepped (R .round .size) (relayKnown R) (R .round) f)
+
+-- a call of `give`: its answer, and the lent buffer
+abbrev pub relayGiveCode : RelayRound → List ℕ → Code
+relayGiveCode R out = giveCode (R .round .size) (relayKnown R) (R .round) out
+
+abbrev pub relaySums : RelayRound → List ℕ → List ℕ
+relaySums R out = sumsAfter (R .round .size) (relayKnown R) (R .round) out
+
+-- ---- the server's round: it hears the U relays, and has no number of its own
+
 abbrev pub serverRound : Round → ServerRound
 serverRound R = record { round = R }
+
+abbrev pub serverCode : ServerRound → Frame → Code
+serverCode R f = stepCode (R .round .clusters) true (R .round) f
+
+abbrev pub serverNext : ServerRound → Frame → ServerRound
+serverNext R f = serverRound (stepped (R .round .clusters) true (R .round) f)
+
+abbrev pub serverGiveCode : ServerRound → List ℕ → Code
+serverGiveCode R out = giveCode (R .round .clusters) true (R .round) out
+
+abbrev pub serverSums : ServerRound → List ℕ → List ℕ
+serverSums R out = sumsAfter (R .round .clusters) true (R .round) out

@@ -3,10 +3,10 @@ ghost use mathlib.Core.Path.{_≡_};
 ghost use Prim.Native.Nat.{_+_, _<_};
 ghost use lib.Dec.{T};
 ghost use lib.ListN.{length};
-ghost use Rattle.refusals.specs.Codes.{firstOf, ifAccepted, verdictCode};
+ghost use Rattle.refusals.specs.Codes.{verdictCode};
 ghost use Rattle.arithmetic.specs.Primes.{allBelow};
 ghost use Rattle.arithmetic.specs.Field.{residue, sumOf, differenceOf};
-ghost use Rattle.rounds.specs.Blocks.{lengthFits, uploadOf, unmaskedOf, blockChecks};
+ghost use Rattle.rounds.specs.Blocks.{lengthFits, uploadOf, unmaskedOf, blockCode, uploadAfter, unmaskAfter};
 use arithmetic::Symbol;
 use arithmetic::Wide;
 use arithmetic::all_below;
@@ -81,7 +81,7 @@ fn write_unmasked(q: Symbol, upload: &[Symbol], key: &[Symbol], out: &mut [Symbo
 // The refusals of both: they ask the same of their blocks. The last test ends at the first number that is no symbol, so its time tells
 // where that stands; of symbols it tells nothing.
 fn check_blocks(q: Symbol, length: usize, a: &[Symbol], b: &[Symbol], out: &[Symbol]) -> Verdict
-    ensures { λ r. ⌜ verdictCode r ≡ firstOf (blockChecks q length (now (a .entry)) (now (b .entry)) (now (out .entry))) ⌝ }
+    ensures { λ r. ⌜ verdictCode r ≡ blockCode q length (now (a .entry)) (now (b .entry)) (now (out .entry)) ⌝ }
 {
     if !is_prime(q) {
         return Verdict::Refused(Refusal::NotPrime);
@@ -115,7 +115,8 @@ pub fn upload(
     key: &[Symbol],
     out: &mut [Symbol],
 ) -> Verdict
-    ensures { λ r. ⌜ (verdictCode r ≡ firstOf (blockChecks q length (now (readings .entry)) (now (key .entry)) (now (out .entry)))) × (now (out .exit) ≡ ifAccepted (firstOf (blockChecks q length (now (readings .entry)) (now (key .entry)) (now (out .entry)))) (uploadOf q length (now (readings .entry)) (now (key .entry))) (now (out .entry))) ⌝ }
+    ensures code { λ r. ⌜ verdictCode r ≡ blockCode q length (now (readings .entry)) (now (key .entry)) (now (out .entry)) ⌝ }
+    ensures out { λ _. ⌜ now (out .exit) ≡ uploadAfter q length (now (readings .entry)) (now (key .entry)) (now (out .entry)) ⌝ }
 {
     match check_blocks(q, length, readings, key, out) {
         Verdict::Refused(refusal) => Verdict::Refused(refusal),
@@ -134,7 +135,8 @@ pub fn unmask(
     key: &[Symbol],
     out: &mut [Symbol],
 ) -> Verdict
-    ensures { λ r. ⌜ (verdictCode r ≡ firstOf (blockChecks q length (now (upload .entry)) (now (key .entry)) (now (out .entry)))) × (now (out .exit) ≡ ifAccepted (firstOf (blockChecks q length (now (upload .entry)) (now (key .entry)) (now (out .entry)))) (unmaskedOf q length (now (upload .entry)) (now (key .entry))) (now (out .entry))) ⌝ }
+    ensures code { λ r. ⌜ verdictCode r ≡ blockCode q length (now (upload .entry)) (now (key .entry)) (now (out .entry)) ⌝ }
+    ensures out { λ _. ⌜ now (out .exit) ≡ unmaskAfter q length (now (upload .entry)) (now (key .entry)) (now (out .entry)) ⌝ }
 {
     match check_blocks(q, length, upload, key, out) {
         Verdict::Refused(refusal) => Verdict::Refused(refusal),

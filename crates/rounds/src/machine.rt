@@ -2,15 +2,14 @@
 // plan.
 ghost use mathlib.Core.Path.{_≡_};
 ghost use mathlib.Core.Bool.{true};
-ghost use mathlib.Core.List.{[]};
 ghost use Prim.Native.Nat.{_-_, _^_, _<_, _≤_};
 ghost use lib.ListN.{length, take};
-ghost use Rattle.refusals.specs.Codes.{firstOf, ifAccepted, verdictCode};
+ghost use Rattle.refusals.specs.Codes.{firstOf, verdictCode};
 ghost use Rattle.arithmetic.specs.Search.{allTo};
 ghost use Rattle.matrices.specs.Linear.{zeros};
 ghost use Rattle.vetting.specs.Plans.{countsFit};
 ghost use Rattle.rounds.specs.Ledger.{frame};
-ghost use Rattle.rounds.specs.Rounds.{hasBit, oneOf, openChecks, opened, noRound, stateChecks, giveChecks, stepCode, stepped};
+ghost use Rattle.rounds.specs.Rounds.{hasBit, oneOf, opened, openCode, openRound, stateChecks, giveCode, sumsAfter, stepCode, stepped};
 ghost use Rattle.rounds.specs.Machine.{contentChecks, ownChecks, lentChecks, Addable, Countable, withSums, addedTo, countedRound};
 use crate::Round;
 use crate::Step;
@@ -41,7 +40,7 @@ fn no_sums() -> [Symbol; 64]
 
 // Opening: 1, 2, 9, 8. A state that is handed in begins with the same tests.
 fn check_opening(clusters: usize, size: usize, q: Symbol, length: usize, known: bool) -> Verdict
-    ensures { λ r. ⌜ verdictCode r ≡ firstOf (openChecks clusters size q length known) ⌝ }
+    ensures { λ r. ⌜ verdictCode r ≡ openCode clusters size q length known ⌝ }
 {
     if !counts_fit(clusters, size, 0) {
         return Verdict::Refused(Refusal::OutOfBounds);
@@ -83,7 +82,8 @@ impl Round {
         number: u32,
         known: bool,
     ) -> Step
-        ensures { λ r. ⌜ (verdictCode (r .answer) ≡ firstOf (openChecks clusters size q length known)) × (r .round ≡ ifAccepted (firstOf (openChecks clusters size q length known)) (opened clusters size q length number) noRound) ⌝ }
+        ensures code { λ r. ⌜ verdictCode (r .answer) ≡ openCode clusters size q length known ⌝ }
+        ensures round { λ r. ⌜ r .round ≡ openRound clusters size q length known number ⌝ }
     {
         match check_opening(clusters, size, q, length, known) {
             Verdict::Refused(refusal) => Step {
@@ -208,7 +208,8 @@ impl Round {
         block: &[Symbol],
     ) -> Step
         requires { ⌜ (countsFit (self .clusters) (self .size) 0 ≡ true → senders ≤ 8) ⌝ }
-        ensures { λ r. ⌜ (verdictCode (r .answer) ≡ stepCode senders known self (frame sender number (now (block .entry)))) × (r .round ≡ stepped senders known self (frame sender number (now (block .entry)))) ⌝ }
+        ensures code { λ r. ⌜ verdictCode (r .answer) ≡ stepCode senders known self (frame sender number (now (block .entry))) ⌝ }
+        ensures round { λ r. ⌜ r .round ≡ stepped senders known self (frame sender number (now (block .entry))) ⌝ }
     {
         match self.check_frame(senders, known, sender, number, block) {
             Verdict::Refused(refusal) => Step {
@@ -246,7 +247,7 @@ impl Round {
 
     fn check_give(self, senders: usize, known: bool, out: &[Symbol]) -> Verdict
         requires { ⌜ (countsFit (self .clusters) (self .size) 0 ≡ true → senders ≤ 8) ⌝ }
-        ensures { λ r. ⌜ verdictCode r ≡ firstOf (giveChecks senders known self [] (now (out .entry))) ⌝ }
+        ensures { λ r. ⌜ verdictCode r ≡ giveCode senders known self (now (out .entry)) ⌝ }
     {
         match self.check_state(senders, known) {
             Verdict::Refused(refusal) => Verdict::Refused(refusal),
@@ -268,7 +269,8 @@ impl Round {
     // Writes only when nothing is refused.
     pub(crate) fn give(self, senders: usize, known: bool, out: &mut [Symbol]) -> Verdict
         requires { ⌜ (countsFit (self .clusters) (self .size) 0 ≡ true → senders ≤ 8) ⌝ }
-        ensures { λ r. ⌜ (verdictCode r ≡ firstOf (giveChecks senders known self [] (now (out .entry)))) × (now (out .exit) ≡ ifAccepted (firstOf (giveChecks senders known self [] (now (out .entry)))) (take (self .length) (self .sums)) (now (out .entry))) ⌝ }
+        ensures code { λ r. ⌜ verdictCode r ≡ giveCode senders known self (now (out .entry)) ⌝ }
+        ensures out { λ _. ⌜ now (out .exit) ≡ sumsAfter senders known self (now (out .entry)) ⌝ }
     {
         match self.check_give(senders, known, out) {
             Verdict::Refused(refusal) => Verdict::Refused(refusal),

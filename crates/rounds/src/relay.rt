@@ -1,10 +1,8 @@
 // The relay's round (document 01: gateway): the users of its cluster report.
 ghost use mathlib.Core.Path.{_≡_};
-ghost use mathlib.Core.List.{[]};
-ghost use lib.ListN.{take};
-ghost use Rattle.refusals.specs.Codes.{firstOf, ifAccepted, verdictCode};
+ghost use Rattle.refusals.specs.Codes.{verdictCode};
 ghost use Rattle.rounds.specs.Ledger.{frame};
-ghost use Rattle.rounds.specs.Rounds.{oneOf, openChecks, opened, noRound, giveChecks, stepCode, stepped, relayKnown, relayRound};
+ghost use Rattle.rounds.specs.Rounds.{oneOf, openCode, relayKnown, relayOpened, relayCode, relayNext, relayGiveCode, relaySums};
 use crate::RelayRound;
 use crate::RelayStep;
 use crate::Round;
@@ -22,7 +20,8 @@ impl RelayRound {
         cluster: usize,
         number: u32,
     ) -> RelayStep
-        ensures { λ r. ⌜ (verdictCode (r .answer) ≡ firstOf (openChecks clusters size q length (oneOf clusters cluster))) × (r .round ≡ ifAccepted (firstOf (openChecks clusters size q length (oneOf clusters cluster))) (relayRound cluster (opened clusters size q length number)) (relayRound 0 noRound)) ⌝ }
+        ensures code { λ r. ⌜ verdictCode (r .answer) ≡ openCode clusters size q length (oneOf clusters cluster) ⌝ }
+        ensures round { λ r. ⌜ r .round ≡ relayOpened clusters size q length cluster number ⌝ }
     {
         let step = Round::open(clusters, size, q, length, number, one_of(clusters, cluster));
         let answer = step.answer;
@@ -49,7 +48,8 @@ impl RelayRound {
 
     // Counts a user's upload. A frame that is refused leaves the round as it was.
     pub fn count(mut self, sender: usize, number: u32, block: &[Symbol]) -> RelayStep
-        ensures { λ r. ⌜ (verdictCode (r .answer) ≡ stepCode (self .round .size) (relayKnown self) (self .round) (frame sender number (now (block .entry)))) × (r .round ≡ relayRound (self .cluster) (stepped (self .round .size) (relayKnown self) (self .round) (frame sender number (now (block .entry))))) ⌝ }
+        ensures code { λ r. ⌜ verdictCode (r .answer) ≡ relayCode self (frame sender number (now (block .entry))) ⌝ }
+        ensures round { λ r. ⌜ r .round ≡ relayNext self (frame sender number (now (block .entry))) ⌝ }
     {
         let round = self.round;
         let step = round.count(round.size, self.is_known(), sender, number, block);
@@ -64,7 +64,9 @@ impl RelayRound {
 
     // Gives the sums out, once everyone has reported.
     pub fn give(mut self, out: &mut [Symbol]) -> RelayStep
-        ensures { λ r. ⌜ (verdictCode (r .answer) ≡ firstOf (giveChecks (self .round .size) (relayKnown self) (self .round) [] (now (out .entry)))) × (now (out .exit) ≡ ifAccepted (firstOf (giveChecks (self .round .size) (relayKnown self) (self .round) [] (now (out .entry)))) (take (self .round .length) (self .round .sums)) (now (out .entry))) × (r .round ≡ self) ⌝ }
+        ensures code { λ r. ⌜ verdictCode (r .answer) ≡ relayGiveCode self (now (out .entry)) ⌝ }
+        ensures out { λ _. ⌜ now (out .exit) ≡ relaySums self (now (out .entry)) ⌝ }
+        ensures round { λ r. ⌜ r .round ≡ self ⌝ }
     {
         let round = self.round;
         let answer = round.give(round.size, self.is_known(), out);

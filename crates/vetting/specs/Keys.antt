@@ -5,7 +5,7 @@ use mathlib.Core.List.{List, [], _∷_, _++_}
 use lib.Dec.{leb, eqb}
 use lib.ListN.{length}
 use Rattle.refusals.specs.declared.Code.{Code}
-use Rattle.refusals.specs.Codes.{code}
+use Rattle.refusals.specs.Codes.{code, firstOf, ifAccepted}
 use Rattle.arithmetic.specs.Primes.{allBelow}
 use Rattle.secrecy.specs.Lists.{tab, joinTo}
 use Rattle.secrecy.specs.Model.{key}
@@ -25,3 +25,10 @@ keyChecks P K L N out =
     ∷ (not (eqb (length N) (L * P .rate) && eqb (length out) (usersOf P * L)), code 4)
     ∷ (not (allBelow (P .q) N), code 3)
     ∷ []
+
+abbrev pub keyCode : Plan → List ℕ → ℕ → List ℕ → List ℕ → Code
+keyCode P K L N out = firstOf (keyChecks P K L N out)
+
+-- what the lent keys hold after the call
+abbrev pub keysAfter : Plan → List ℕ → ℕ → List ℕ → List ℕ → List ℕ
+keysAfter P K L N out = ifAccepted (keyCode P K L N out) (keysOf P K L N) out

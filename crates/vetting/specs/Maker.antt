@@ -5,13 +5,13 @@ use mathlib.Core.List.{List, _∷_, map}
 use lib.Dec.{leb, ltb, eqb}
 use lib.ListN.{length}
 use Rattle.refusals.specs.declared.Code.{Code}
-use Rattle.refusals.specs.Codes.{code}
+use Rattle.refusals.specs.Codes.{code, firstOf, ifAccepted}
 use Rattle.arithmetic.specs.Primes.{isPrime}
 use Rattle.arithmetic.specs.Field.{powerOf, oppositeOf}
 use Rattle.secrecy.specs.Lists.{tab}
 use Rattle.secrecy.specs.Counts.{sumTo}
 use Rattle.vetting.specs.declared.Plan.{Plan}
-use Rattle.vetting.specs.Plans.{countsFit}
+use Rattle.vetting.specs.Plans.{countsFit, noPlan}
 use Rattle.vetting.specs.Walk.{pairs}
 use Rattle.vetting.specs.Verdict.{leakCheck}
 
@@ -45,3 +45,13 @@ makerChecks u v t q γ out =
     ∷ (leb ((u - 1) * v) t, code 10)
     ∷ (not (eqb (length out) (u * v * rateOf u v t)), code 4)
     ∷ map (leakCheck (planOf u v t q) (madeTable u v t q γ)) (pairs u v t)
+
+abbrev pub makerCode : ℕ → ℕ → ℕ → ℕ → ℕ → List ℕ → Code
+makerCode u v t q γ out = firstOf (makerChecks u v t q γ out)
+
+-- the plan that is answered, and what the lent table holds after the call
+abbrev pub makerPlan : ℕ → ℕ → ℕ → ℕ → ℕ → List ℕ → Plan
+makerPlan u v t q γ out = ifAccepted (makerCode u v t q γ out) (planOf u v t q) noPlan
+
+abbrev pub makerTable : ℕ → ℕ → ℕ → ℕ → ℕ → List ℕ → List ℕ
+makerTable u v t q γ out = ifAccepted (makerCode u v t q γ out) (madeTable u v t q γ) out

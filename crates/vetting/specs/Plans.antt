@@ -4,7 +4,7 @@ use mathlib.Core.Bool.{Bool, not, _&&_}
 use mathlib.Core.List.{List, [], _∷_}
 use lib.Dec.{leb}
 use Rattle.refusals.specs.declared.Code.{Code}
-use Rattle.refusals.specs.Codes.{code, accepted, codeOf}
+use Rattle.refusals.specs.Codes.{code, accepted, codeOf, firstOf, ifAccepted}
 use Rattle.arithmetic.specs.Primes.{isPrime}
 use Rattle.secrecy.specs.Model.{Pool}
 use Rattle.vetting.specs.declared.Plan.{Plan}
@@ -35,6 +35,13 @@ plan clusters size limit rate q = record { clusters = clusters; size = size; lim
 
 abbrev pub noPlan : Plan
 noPlan = plan 0 0 0 0 0
+
+abbrev pub planCode : Plan → Code
+planCode P = firstOf (planChecks P)
+
+-- the plan, where nothing is refused
+abbrev pub planMade : Plan → Plan
+planMade P = ifAccepted (planCode P) P noPlan
 
 -- what the constructor's answer says: its refusal, and its plan, which is nothing but zeros where it refuses
 abbrev pub plannedCode : Planned → Code

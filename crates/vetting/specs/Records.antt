@@ -5,11 +5,11 @@ use mathlib.Core.List.{List, [], _∷_, _++_}
 use lib.Dec.{ltb, eqb}
 use lib.ListN.{length, replicate}
 use Rattle.refusals.specs.declared.Code.{Code}
-use Rattle.refusals.specs.Codes.{code, firstOf}
+use Rattle.refusals.specs.Codes.{code, firstOf, ifAccepted}
 use Rattle.arithmetic.specs.Primes.{isPrime, allBelow}
 use Rattle.matrices.specs.Linear.{at}
 use Rattle.vetting.specs.declared.Plan.{Plan}
-use Rattle.vetting.specs.Plans.{usersOf, inBounds}
+use Rattle.vetting.specs.Plans.{usersOf, inBounds, noPlan}
 use Rattle.vetting.specs.Verdict.{tableChecks}
 
 -- two bytes, low first
@@ -85,6 +85,13 @@ readVerdict B out = firstOf (readChecks B out)
 abbrev pub padded : List ℕ → List ℕ
 padded K = K ++ replicate (256 - length K) 0
 
+-- the plan that is answered, and what the lent table holds after the call
+abbrev pub planAfter : List ℕ → List ℕ → Plan
+planAfter B out = ifAccepted (readVerdict B out) (planRead B) noPlan
+
+abbrev pub tableAfter : List ℕ → List ℕ → List ℕ
+tableAfter B out = ifAccepted (readVerdict B out) (padded (tableRead B)) out
+
 -- ---- writing
 
 abbrev pub writeChecks : Plan → List ℕ → List ℕ → List (Bool × Code)
@@ -92,3 +99,7 @@ writeChecks P K out = tableChecks P K ++ (not (eqb (length out) (recordSize P)),
 
 abbrev pub writeVerdict : Plan → List ℕ → List ℕ → Code
 writeVerdict P K out = firstOf (writeChecks P K out)
+
+-- what the lent buffer holds after the call
+abbrev pub bytesAfter : Plan → List ℕ → List ℕ → List ℕ
+bytesAfter P K out = ifAccepted (writeVerdict P K out) (recordOf P K) out

@@ -1,7 +1,6 @@
 // The plan's bounds and its constructor.
 ghost use mathlib.Core.Path.{_≡_};
-ghost use Rattle.refusals.specs.Codes.{firstOf, ifAccepted};
-ghost use Rattle.vetting.specs.Plans.{planChecks, plan, noPlan, plannedCode, plannedPlan, countsFit, inBounds};
+ghost use Rattle.vetting.specs.Plans.{plan, planCode, planMade, plannedCode, plannedPlan, countsFit, inBounds};
 use crate::Plan;
 use crate::Planned;
 use arithmetic::Symbol;
@@ -60,7 +59,8 @@ impl Plan {
 
     // The plan with these counts, where they are within their bounds and q is a prime.
     pub fn new(clusters: usize, size: usize, limit: usize, rate: usize, q: Symbol) -> Planned
-        ensures { λ r. ⌜ (plannedCode r ≡ firstOf (planChecks (plan clusters size limit rate q))) × (plannedPlan r ≡ ifAccepted (firstOf (planChecks (plan clusters size limit rate q))) (plan clusters size limit rate q) noPlan) ⌝ }
+        ensures code { λ r. ⌜ plannedCode r ≡ planCode (plan clusters size limit rate q) ⌝ }
+        ensures plan { λ r. ⌜ plannedPlan r ≡ planMade (plan clusters size limit rate q) ⌝ }
     {
         let made = Plan {
             clusters,

@@ -2,12 +2,12 @@
 ghost use mathlib.Core.Path.{_≡_};
 ghost use Prim.Native.Nat.{_+_, _*_, _%_, _<_, _≤_};
 ghost use lib.ListN.{length};
-ghost use Rattle.refusals.specs.Codes.{firstOf, ifAccepted, verdictCode};
+ghost use Rattle.refusals.specs.Codes.{verdictCode};
 ghost use Rattle.matrices.specs.Linear.{at};
 ghost use Rattle.secrecy.specs.Counts.{sumTo};
 ghost use Rattle.secrecy.specs.Lists.{tab};
 ghost use Rattle.vetting.specs.Plans.{usersOf};
-ghost use Rattle.vetting.specs.Keys.{keysOf, keyChecks};
+ghost use Rattle.vetting.specs.Keys.{keysOf, keyCode, keysAfter};
 use crate::Plan;
 use crate::vet;
 use arithmetic::Symbol;
@@ -76,7 +76,7 @@ fn check_keys(
     source: &[Symbol],
     keys: &[Symbol],
 ) -> Verdict
-    ensures { λ r. ⌜ verdictCode r ≡ firstOf (keyChecks plan (now (table .entry)) length (now (source .entry)) (now (keys .entry))) ⌝ }
+    ensures { λ r. ⌜ verdictCode r ≡ keyCode plan (now (table .entry)) length (now (source .entry)) (now (keys .entry)) ⌝ }
 {
     match vet(plan, table) {
         Verdict::Refused(refusal) => return Verdict::Refused(refusal),
@@ -108,7 +108,8 @@ pub fn derive_keys(
     source: &[Symbol],
     keys: &mut [Symbol],
 ) -> Verdict
-    ensures { λ r. ⌜ (verdictCode r ≡ firstOf (keyChecks plan (now (table .entry)) length (now (source .entry)) (now (keys .entry)))) × (now (keys .exit) ≡ ifAccepted (firstOf (keyChecks plan (now (table .entry)) length (now (source .entry)) (now (keys .entry)))) (keysOf plan (now (table .entry)) length (now (source .entry))) (now (keys .entry))) ⌝ }
+    ensures code { λ r. ⌜ verdictCode r ≡ keyCode plan (now (table .entry)) length (now (source .entry)) (now (keys .entry)) ⌝ }
+    ensures keys { λ _. ⌜ now (keys .exit) ≡ keysAfter plan (now (table .entry)) length (now (source .entry)) (now (keys .entry)) ⌝ }
 {
     match check_keys(plan, table, length, source, keys) {
         Verdict::Refused(refusal) => Verdict::Refused(refusal),

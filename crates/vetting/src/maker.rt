@@ -11,10 +11,10 @@ ghost use Rattle.arithmetic.specs.Field.{powerOf, oppositeOf};
 ghost use Rattle.matrices.specs.Linear.{at};
 ghost use Rattle.secrecy.specs.Counts.{sumTo};
 ghost use Rattle.secrecy.specs.Lists.{tab};
-ghost use Rattle.vetting.specs.Plans.{usersOf, inBounds, noPlan, plannedCode, plannedPlan};
+ghost use Rattle.vetting.specs.Plans.{usersOf, inBounds, plannedCode, plannedPlan};
 ghost use Rattle.vetting.specs.Walk.{pairs};
 ghost use Rattle.vetting.specs.Verdict.{leakCheck};
-ghost use Rattle.vetting.specs.Maker.{rateOf, planOf, entry, madeTable, makerChecks};
+ghost use Rattle.vetting.specs.Maker.{rateOf, entry, madeTable, makerCode, makerPlan, makerTable};
 use crate::Plan;
 use crate::Planned;
 use crate::bounds::counts_fit;
@@ -123,7 +123,8 @@ fn write_vetted(
     table: &mut [Symbol],
 ) -> Verdict
     requires { ⌜ (inBounds plan ≡ true) × (isPrime (plan .q) ≡ true) × (plan .rate ≡ rateOf (plan .clusters) (plan .size) (plan .limit)) × (length (now built) ≡ usersOf plan * plan .rate) × (length (now table) ≡ usersOf plan * plan .rate) ⌝ }
-    ensures { λ r. ⌜ (verdictCode r ≡ firstOf (map (leakCheck plan (madeTable (plan .clusters) (plan .size) (plan .limit) (plan .q) generator)) (pairs (plan .clusters) (plan .size) (plan .limit)))) × (now (table .exit) ≡ ifAccepted (verdictCode r) (madeTable (plan .clusters) (plan .size) (plan .limit) (plan .q) generator) (now (table .entry))) ⌝ }
+    ensures code { λ r. ⌜ verdictCode r ≡ firstOf (map (leakCheck plan (madeTable (plan .clusters) (plan .size) (plan .limit) (plan .q) generator)) (pairs (plan .clusters) (plan .size) (plan .limit))) ⌝ }
+    ensures table { λ r. ⌜ now (table .exit) ≡ ifAccepted (verdictCode r) (madeTable (plan .clusters) (plan .size) (plan .limit) (plan .q) generator) (now (table .entry)) ⌝ }
 {
     fill_table(plan, generator, built);
     match vet(plan, built) {
@@ -138,7 +139,8 @@ fn write_vetted(
 // The same, with room to build in for the largest table.
 fn write_table(plan: Plan, generator: Symbol, table: &mut [Symbol]) -> Verdict
     requires { ⌜ (inBounds plan ≡ true) × (isPrime (plan .q) ≡ true) × (plan .rate ≡ rateOf (plan .clusters) (plan .size) (plan .limit)) × (length (now table) ≡ usersOf plan * plan .rate) ⌝ }
-    ensures { λ r. ⌜ (verdictCode r ≡ firstOf (map (leakCheck plan (madeTable (plan .clusters) (plan .size) (plan .limit) (plan .q) generator)) (pairs (plan .clusters) (plan .size) (plan .limit)))) × (now (table .exit) ≡ ifAccepted (verdictCode r) (madeTable (plan .clusters) (plan .size) (plan .limit) (plan .q) generator) (now (table .entry))) ⌝ }
+    ensures code { λ r. ⌜ verdictCode r ≡ firstOf (map (leakCheck plan (madeTable (plan .clusters) (plan .size) (plan .limit) (plan .q) generator)) (pairs (plan .clusters) (plan .size) (plan .limit))) ⌝ }
+    ensures table { λ r. ⌜ now (table .exit) ≡ ifAccepted (verdictCode r) (madeTable (plan .clusters) (plan .size) (plan .limit) (plan .q) generator) (now (table .entry)) ⌝ }
 {
     let m = table.len();
     let mut built = [0u16; 256];
@@ -154,7 +156,9 @@ pub fn make_table(
     generator: Symbol,
     table: &mut [Symbol],
 ) -> Planned
-    ensures { λ r. ⌜ (plannedCode r ≡ firstOf (makerChecks clusters size limit q generator (now (table .entry)))) × (plannedPlan r ≡ ifAccepted (firstOf (makerChecks clusters size limit q generator (now (table .entry)))) (planOf clusters size limit q) noPlan) × (now (table .exit) ≡ ifAccepted (firstOf (makerChecks clusters size limit q generator (now (table .entry)))) (madeTable clusters size limit q generator) (now (table .entry))) ⌝ }
+    ensures code { λ r. ⌜ plannedCode r ≡ makerCode clusters size limit q generator (now (table .entry)) ⌝ }
+    ensures plan { λ r. ⌜ plannedPlan r ≡ makerPlan clusters size limit q generator (now (table .entry)) ⌝ }
+    ensures table { λ _. ⌜ now (table .exit) ≡ makerTable clusters size limit q generator (now (table .entry)) ⌝ }
 {
     if !counts_fit(clusters, size, limit) {
         return Planned::Refused(Refusal::OutOfBounds);

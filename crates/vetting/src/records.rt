@@ -4,11 +4,11 @@ ghost use mathlib.Core.Bool.{true, false};
 ghost use mathlib.Core.List.{[], _∷_, _++_};
 ghost use Prim.Native.Nat.{_+_, _*_, _/_, _%_, _≤_, _<_};
 ghost use lib.ListN.{length};
-ghost use Rattle.refusals.specs.Codes.{verdictCode, ifAccepted};
+ghost use Rattle.refusals.specs.Codes.{verdictCode};
 ghost use Rattle.arithmetic.specs.Primes.{allBelow};
 ghost use Rattle.matrices.specs.Linear.{at};
-ghost use Rattle.vetting.specs.Plans.{usersOf, inBounds, noPlan, plannedCode, plannedPlan};
-ghost use Rattle.vetting.specs.Records.{word, bytesOf, wordsOf, bytesOfAll, recordSize, recordOf, distance, start, badTrailer, planRead, tableRead, readVerdict, padded, writeVerdict};
+ghost use Rattle.vetting.specs.Plans.{usersOf, inBounds, plannedCode, plannedPlan};
+ghost use Rattle.vetting.specs.Records.{word, bytesOf, wordsOf, bytesOfAll, recordSize, recordOf, distance, start, badTrailer, planRead, readVerdict, planAfter, tableAfter, padded, writeVerdict, bytesAfter};
 use crate::Plan;
 use crate::Planned;
 use arithmetic::Symbol;
@@ -134,7 +134,7 @@ fn words_below(q: Symbol, bytes: &[u8], from: usize, count: usize) -> bool
 // The reader's checks. The symbols are tested where they lie, so that a refusal writes nothing.
 fn check_record(bytes: &[u8], table: &[Symbol]) -> Planned
     ensures code { λ r. ⌜ plannedCode r ≡ readVerdict (now (bytes .entry)) (now (table .entry)) ⌝ }
-    ensures plan { λ r. ⌜ plannedPlan r ≡ ifAccepted (readVerdict (now (bytes .entry)) (now (table .entry))) (planRead (now (bytes .entry))) noPlan ⌝ }
+    ensures plan { λ r. ⌜ plannedPlan r ≡ planAfter (now (bytes .entry)) (now (table .entry)) ⌝ }
 {
     if bad_trailer(bytes) {
         return Planned::Refused(Refusal::BadTrailer);
@@ -184,8 +184,8 @@ fn fill(bytes: &[u8], from: usize, count: usize, table: &mut [Symbol])
 // The plan of the record at the buffer's end, whose key table is put in the lent table.
 pub fn read_record(bytes: &[u8], table: &mut [Symbol]) -> Planned
     ensures code { λ r. ⌜ plannedCode r ≡ readVerdict (now (bytes .entry)) (now (table .entry)) ⌝ }
-    ensures plan { λ r. ⌜ plannedPlan r ≡ ifAccepted (readVerdict (now (bytes .entry)) (now (table .entry))) (planRead (now (bytes .entry))) noPlan ⌝ }
-    ensures table { λ _. ⌜ now (table .exit) ≡ ifAccepted (readVerdict (now (bytes .entry)) (now (table .entry))) (padded (tableRead (now (bytes .entry)))) (now (table .entry)) ⌝ }
+    ensures plan { λ r. ⌜ plannedPlan r ≡ planAfter (now (bytes .entry)) (now (table .entry)) ⌝ }
+    ensures table { λ _. ⌜ now (table .exit) ≡ tableAfter (now (bytes .entry)) (now (table .entry)) ⌝ }
 {
     match check_record(bytes, table) {
         Planned::Refused(refusal) => Planned::Refused(refusal),
@@ -280,7 +280,7 @@ fn check_writing(plan: Plan, table: &[Symbol], out: &[u8]) -> Verdict
 // Writes the record of a plan and its key table.
 pub fn write_record(plan: Plan, table: &[Symbol], out: &mut [u8]) -> Verdict
     ensures code { λ r. ⌜ verdictCode r ≡ writeVerdict plan (now (table .entry)) (now (out .entry)) ⌝ }
-    ensures out { λ _. ⌜ now (out .exit) ≡ ifAccepted (writeVerdict plan (now (table .entry)) (now (out .entry))) (recordOf plan (now (table .entry))) (now (out .entry)) ⌝ }
+    ensures out { λ _. ⌜ now (out .exit) ≡ bytesAfter plan (now (table .entry)) (now (out .entry)) ⌝ }
 {
     match check_writing(plan, table, out) {
         Verdict::Refused(refusal) => Verdict::Refused(refusal),
