@@ -18,7 +18,9 @@
 //! # Ok::<(), kortyghai::Refusal>(())
 //! ```
 
-mod raw;
+// open to the program `hostile_frames`, which compares whole answers
+#[doc(hidden)]
+pub mod raw;
 mod refusal;
 
 pub use refusal::Refusal;
@@ -184,6 +186,45 @@ pub fn unmask(q: u16, upload: &[u16], key: &[u16]) -> Result<Vec<u16>, Refusal> 
     let mut out = vec![0; upload.len()];
     unmask_into(q, upload.len(), upload, key, &mut out)?;
     Ok(out)
+}
+
+/// A relay's round: of cluster `cluster`, with the round's number, a bit for each user who has reported (user v of the cluster
+/// has bit v − 1) and the sums, of which the first L = `length` count. A new round has 0 in `reported` and in all `sums`.
+///
+/// Any numbers can stand here; a frame into the round refuses those that are outside their bounds.
+#[derive(Clone, PartialEq, Eq, Debug)]
+pub struct RelayRound {
+    pub clusters: usize,
+    pub size: usize,
+    pub q: u16,
+    pub length: usize,
+    pub cluster: usize,
+    pub number: u32,
+    pub reported: u16,
+    pub sums: [u16; MAX_LENGTH],
+}
+
+/// A frame into a relay's round: a sender from 1 to V, the round number `said` in it, and a block of exactly L symbols, which
+/// are added to the sums.
+///
+/// Refuses, the first that holds, for the round: 1, 2, 9, 8, 3; then for the frame: 8, 4, 3, 14, 11.
+pub fn count_frame(round: &mut RelayRound, sender: usize, said: u32, block: &[u16]) -> Result<(), Refusal> {
+    Refusal::unpack(unsafe {
+        raw::kortyghai_count_frame(
+            round.clusters,
+            round.size,
+            round.q,
+            round.length,
+            round.cluster,
+            round.number,
+            &mut round.reported,
+            &mut round.sums,
+            sender,
+            said,
+            block.as_ptr(),
+            block.len(),
+        )
+    })
 }
 
 #[cfg(test)]

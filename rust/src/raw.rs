@@ -43,3 +43,20 @@ extern "C" {
         lent: usize,
     ) -> u64;
 }
+
+extern "C" {
+    pub fn kortyghai_count_frame(
+        clusters: usize,
+        size: usize,
+        q: u16,
+        length: usize,
+        cluster: usize,
+        number: u32,
+        reported: *mut u16,
+        sums: *mut [u16; 64],
+        sender: usize,
+        said: u32,
+        block: *const u16,
+        symbols: usize,
+    ) -> u64;
+}

@@ -146,6 +146,21 @@ fn blocks_there_and_back() {
 }
 
 #[test]
+fn frames_into_a_round() {
+    let mut round = RelayRound { clusters: 2, size: 2, q: 5, length: 2, cluster: 1, number: 9, reported: 0, sums: [0; 64] };
+    assert_eq!(count_frame(&mut round, 2, 9, &[4, 1]), Ok(()));
+    let before = round.clone();
+    assert_eq!(count_frame(&mut round, 2, 9, &[1, 1]), refused(11, 0, 0));
+    assert_eq!(count_frame(&mut round, 2, 8, &[1, 1]), refused(14, 0, 0));
+    assert_eq!(count_frame(&mut round, 2, 8, &[1, 5]), refused(3, 0, 0));
+    assert_eq!(count_frame(&mut round, 2, 8, &[5]), refused(4, 0, 0));
+    assert_eq!(count_frame(&mut round, 3, 8, &[5]), refused(8, 0, 0));
+    assert_eq!(round, before);
+    assert_eq!(count_frame(&mut round, 1, 9, &[3, 3]), Ok(()));
+    assert_eq!((round.reported, &round.sums[..3]), (3, &[2, 4, 0][..]));
+}
+
+#[test]
 fn refusals_in_words() {
     let text = |number, first, second| Refusal { number, first, second }.to_string();
     assert_eq!(text(7, 3, 2), "7: the plan leaks (coalition 3 to relay 2)");

@@ -3,9 +3,10 @@
 
 mod buffers;
 mod model;
+mod seeded;
 
-use buffers::Seeded;
 use model::{Code, Plan};
+use seeded::Seeded;
 use std::time::Instant;
 
 type Leaks = fn(&Plan, usize, usize) -> bool;

@@ -1,0 +1,71 @@
+//! A second round, written from document 01 alone. It keeps the names of those who have reported as a list, adds whole numbers
+//! and then reduces them, and knows a prime by its having two divisors.
+
+use crate::states::Frame;
+use kortyghai::RelayRound;
+use std::sync::OnceLock;
+
+/// How many divisors each number below 65,536 has.
+fn divisors() -> &'static [u16] {
+    static COUNTED: OnceLock<Vec<u16>> = OnceLock::new();
+    COUNTED.get_or_init(|| {
+        let mut counted = vec![0; 65_536];
+        for d in 1..65_536 {
+            (d..65_536).step_by(d).for_each(|m| counted[m] += 1);
+        }
+        counted
+    })
+}
+
+/// Who has reported. "Its bit in the roll is that number less 1."
+fn names(reported: u16) -> Vec<usize> {
+    let bits = format!("{reported:016b}");
+    bits.chars().rev().zip(1..).filter(|(bit, _)| *bit == '1').map(|(_, name)| name).collect()
+}
+
+/// The numbers by which a round that is handed in can be refused, and whether each holds: "in the order 1, 2, 9, 8, 3".
+fn of_state(round: &RelayRound, names: &[usize]) -> [(u16, bool); 5] {
+    let users = round.clusters as u128 * round.size as u128;
+    let counts = (1..=8).contains(&round.clusters) && (1..=8).contains(&round.size) && users <= 16;
+    let senders = names.iter().all(|name| (1..=round.size).contains(name));
+    let sums = round.sums.iter().enumerate().all(|(i, &x)| if i < round.length { x < round.q } else { x == 0 });
+    [
+        (1, !counts),
+        (2, divisors()[round.q as usize] != 2),
+        (9, round.length == 0 || round.length > 64),
+        (8, !(1..=round.clusters).contains(&round.cluster) || !senders),
+        (3, !sums),
+    ]
+}
+
+/// "A frame into a round: 8, 4, 3, 14, 11."
+fn of_frame(round: &RelayRound, names: &[usize], frame: &Frame) -> [(u16, bool); 5] {
+    [
+        (8, frame.sender == 0 || frame.sender > round.size),
+        (4, frame.block.len() != round.length),
+        (3, frame.block.iter().any(|&x| x >= round.q)),
+        (14, frame.said != round.number),
+        (11, names.contains(&frame.sender)),
+    ]
+}
+
+/// Who has reported and the sums after the frame, or the number of the refusal.
+pub fn count(round: &RelayRound, frame: &Frame) -> Result<(u16, [u16; 64]), u16> {
+    let mut names = names(round.reported);
+    let conditions = of_state(round, &names).into_iter().chain(of_frame(round, &names, frame));
+    if let Some((number, _)) = conditions.into_iter().find(|(_, holds)| *holds) {
+        return Err(number);
+    }
+    names.push(frame.sender);
+    let reported = names.iter().map(|name| 2_u16.pow(*name as u32 - 1)).sum();
+    Ok((reported, total(round.q, &[&round.sums, &frame.block])))
+}
+
+/// Blocks added up, position by position: first whole, then modulo q.
+pub fn total(q: u16, blocks: &[&[u16]]) -> [u16; 64] {
+    let mut whole = [0_u64; 64];
+    for block in blocks {
+        block.iter().zip(&mut whole).for_each(|(&x, sum)| *sum += x as u64);
+    }
+    whole.map(|sum| (sum % q as u64) as u16)
+}

@@ -1,0 +1,210 @@
+//! Seeded rounds and frames, and what damage makes of them.
+
+use crate::seeded::Seeded;
+use kortyghai::RelayRound;
+
+#[derive(Clone)]
+pub struct Frame {
+    pub sender: usize,
+    pub said: u32,
+    pub block: Vec<u16>,
+}
+
+pub type Case = (RelayRound, Frame);
+
+/// Small and large primes, and those around which two symbols stop fitting into 16 bits when added.
+pub const PRIMES: [u16; 11] = [2, 3, 5, 7, 11, 251, 257, 32_749, 32_771, 65_519, 65_521];
+
+/// A symbol below q, often at an end. Where q is 0, it is 0.
+pub fn symbol(s: &mut Seeded, q: u16) -> u16 {
+    let q = q.max(1);
+    match s.below(4) {
+        0 => s.one_of(&[0, q - 1]),
+        _ => s.below(q as usize) as u16,
+    }
+}
+
+pub fn block(s: &mut Seeded, q: u16, length: usize) -> Vec<u16> {
+    (0..length).map(|_| symbol(s, q)).collect()
+}
+
+/// A new round.
+pub fn opened(s: &mut Seeded) -> RelayRound {
+    let (clusters, size) = loop {
+        let (u, v) = (1 + s.below(8), 1 + s.below(8));
+        if u * v <= 16 {
+            break (u, v);
+        }
+    };
+    let length = if s.below(4) == 0 { s.one_of(&[1, 63, 64]) } else { 1 + s.below(64) };
+    let number = if s.below(4) == 0 { s.one_of(&[0, 1, u32::MAX]) } else { s.next() as u32 };
+    RelayRound { clusters, size, q: s.one_of(&PRIMES), length, cluster: 1 + s.below(clusters), number, reported: 0, sums: [0; 64] }
+}
+
+/// A good round in which some may have reported, and a good frame from one who hasn't.
+pub fn good(s: &mut Seeded) -> Case {
+    let mut round = opened(s);
+    let sender = 1 + s.below(round.size);
+    round.reported = s.next() as u16 & ((1 << round.size) - 1) & !(1 << (sender - 1));
+    if round.reported > 0 {
+        let sums = block(s, round.q, round.length);
+        round.sums[..round.length].copy_from_slice(&sums);
+    }
+    let frame = Frame { sender, said: round.number, block: block(s, round.q, round.length) };
+    (round, frame)
+}
+
+/// The same with at most 63 positions, so that a sum can stand past them.
+pub fn good_short(s: &mut Seeded) -> Case {
+    loop {
+        let case = good(s);
+        if case.0.length < 64 {
+            return case;
+        }
+    }
+}
+
+/// Far above every bound; some are `n` again once they are cut to fewer bits.
+fn huge(s: &mut Seeded, n: usize) -> usize {
+    s.one_of(&[n + (1 << 8), n + (1 << 16), n + (1 << 32), n + (1 << 63), 1 << 32, 1 << 63, usize::MAX - 1, usize::MAX])
+}
+
+/// A symbol that is not below q.
+fn too_large(s: &mut Seeded, q: u16) -> u16 {
+    let more = s.below(65_536 - q as usize) as u16;
+    s.one_of(&[q, q.saturating_add(1), q + more, u16::MAX])
+}
+
+fn counts(s: &mut Seeded, (round, _): &mut Case) {
+    let (clusters, size) = (round.clusters, round.size);
+    let wrong = [0, 9, 10, 16, 17, 255, huge(s, clusters), huge(s, size)];
+    let crowd = s.one_of(&[(3, 6), (6, 3), (4, 5), (5, 4), (8, 3), (3, 8), (2, 9), (9, 1), (8, 8)]);
+    let wraps = s.one_of(&[(1 << 32, 1 << 32), (1 << 63, 2), (2, 1 << 63), (usize::MAX, usize::MAX), (0, 0), (0, usize::MAX)]);
+    (round.clusters, round.size) = match s.below(6) {
+        0 | 1 => (s.one_of(&wrong), size),
+        2 | 3 => (clusters, s.one_of(&wrong)),
+        4 => crowd,
+        _ => wraps,
+    };
+}
+
+fn no_prime(s: &mut Seeded, (round, _): &mut Case) {
+    let even = 4 + 2 * s.below(32_766) as u16;
+    round.q = s.one_of(&[0, 1, 4, 6, 9, 15, 25, 49, 121, 255, 32_767, 63_001, 64_507, 65_025, 65_533, 65_535, even, even]);
+}
+
+fn length(s: &mut Seeded, (round, _): &mut Case) {
+    let far = huge(s, round.length);
+    round.length = s.one_of(&[0, 0, 65, 65, 66, 70, 128, 255, far, far]);
+}
+
+fn cluster(s: &mut Seeded, (round, _): &mut Case) {
+    let far = huge(s, round.cluster);
+    round.cluster = s.one_of(&[0, 0, round.clusters + 1, round.clusters + 1, 9, 16, far, far]);
+}
+
+fn no_senders_bit(s: &mut Seeded, (round, _): &mut Case) {
+    let bits = s.next() as u16 | 1 << (round.size + s.below(16 - round.size));
+    let one = 1 << s.one_of(&[round.size, 15]);
+    round.reported |= s.one_of(&[one, bits & !((1 << round.size) - 1)]);
+}
+
+fn sum_too_large(s: &mut Seeded, (round, _): &mut Case) {
+    for _ in 0..s.one_of(&[1, 1, 3]) {
+        let last = round.length - 1;
+        let any = s.below(round.length);
+        round.sums[s.one_of(&[0, any, any, last])] = too_large(s, round.q);
+    }
+}
+
+/// Does nothing where no sum stands past the others.
+fn sum_past(s: &mut Seeded, (round, _): &mut Case) {
+    if round.length < 64 {
+        let any = round.length + s.below(64 - round.length);
+        let large = too_large(s, round.q);
+        round.sums[s.one_of(&[round.length, any, any, 63])] = s.one_of(&[1, round.q - 1, large]);
+    }
+}
+
+fn no_sender(s: &mut Seeded, (round, frame): &mut Case) {
+    let far = huge(s, frame.sender);
+    frame.sender = s.one_of(&[0, 0, round.size + 1, round.size + 1, 9, 16, 17, 64, 65, far, far]);
+}
+
+/// From 0 to 70 symbols, and at times as many that 16 bits say it is right.
+fn block_length(s: &mut Seeded, (round, frame): &mut Case) {
+    let wanted = match s.below(1000) {
+        0 => round.length + 65_536,
+        1..=300 => s.one_of(&[0, round.length - 1, round.length + 1]),
+        _ => (round.length + 1 + s.below(70)) % 71,
+    };
+    while frame.block.len() < wanted {
+        frame.block.push(symbol(s, round.q));
+    }
+    frame.block.truncate(wanted);
+}
+
+fn symbol_too_large(s: &mut Seeded, (round, frame): &mut Case) {
+    for _ in 0..s.one_of(&[1, 1, 3]) {
+        let last = frame.block.len() - 1;
+        let any = s.below(frame.block.len());
+        frame.block[s.one_of(&[0, any, any, last])] = too_large(s, round.q);
+    }
+}
+
+fn late(s: &mut Seeded, (round, frame): &mut Case) {
+    let n = round.number;
+    let other = s.next() as u32 | 1;
+    frame.said = s.one_of(&[n.wrapping_sub(1), n.wrapping_add(1), n ^ 1 << 16, n ^ 1 << 31, n ^ other]);
+}
+
+fn repeated(_: &mut Seeded, (round, frame): &mut Case) {
+    round.reported |= 1 << (frame.sender - 1);
+}
+
+/// A kind of damage: what it does, and the number by which that is refused.
+pub type Damage = (&'static str, u16, fn(&mut Seeded, &mut Case));
+
+/// All kinds, in the order of their refusals. The first seven damage the round handed in, the others the frame.
+pub const DAMAGES: [Damage; 12] = [
+    ("U, V or U x V outside", 1, counts),
+    ("q no prime", 2, no_prime),
+    ("L outside", 9, length),
+    ("cluster outside", 8, cluster),
+    ("a bit that is no sender's", 8, no_senders_bit),
+    ("a sum not below q", 3, sum_too_large),
+    ("a sum past L", 3, sum_past),
+    ("sender outside", 8, no_sender),
+    ("block of another length", 4, block_length),
+    ("a symbol not below q", 3, symbol_too_large),
+    ("another round's number", 14, late),
+    ("sender has reported", 11, repeated),
+];
+
+/// A good round and frame with a set of damages (bit i stands for the i-th), and the number of the first of them, or 0.
+/// What is refused first is done last, so that no other damage undoes it.
+pub fn damaged(s: &mut Seeded, set: usize) -> (Case, u16) {
+    let mut case = good_short(s);
+    let chosen = || (0..DAMAGES.len()).filter(|i| set >> i & 1 == 1).map(|i| DAMAGES[i]);
+    for (_, _, damage) in chosen().collect::<Vec<_>>().into_iter().rev() {
+        damage(s, &mut case);
+    }
+    (case, chosen().next().map_or(0, |first| first.1))
+}
+
+/// Small numbers by chance in all places, near the bounds or inside them.
+pub fn by_chance(s: &mut Seeded) -> Case {
+    let q = s.one_of(&[0, 1, 2, 3, 3, 4, 5, 5, 7, 7, 9, 65_521]);
+    let length = s.one_of(&[0, 1, 1, 2, 2, 3, 3, 63, 64, 65]);
+    let mut sums = [0; 64];
+    for _ in 0..s.below(4) {
+        sums[s.below(4)] = s.below(7) as u16;
+    }
+    let reported = s.next() as u16 & s.one_of(&[0, 1, 3, 3, 7, 15, 255]);
+    let counts = (s.below(7), s.below(7));
+    let number = s.below(2) as u32;
+    let round = RelayRound { clusters: counts.0, size: counts.1, q, length, cluster: s.below(4), number, reported, sums };
+    let given = if s.below(4) > 0 { length } else { s.below(5) };
+    let block = (0..given).map(|_| if s.below(8) > 0 { symbol(s, q) } else { s.below(8) as u16 }).collect();
+    (round, Frame { sender: s.below(6), said: s.below(2) as u32, block })
+}
