@@ -64,9 +64,9 @@ impl RelayRound {
 
     // Gives the sums out, once everyone has reported.
     pub fn give(mut self, out: &mut [Symbol]) -> RelayStep
-        ensures code { λ r. ⌜ verdictCode (r .answer) ≡ relayGiveCode self (now (out .entry)) ⌝ }
-        ensures out { λ _. ⌜ now (out .exit) ≡ relaySums self (now (out .entry)) ⌝ }
-        ensures round { λ r. ⌜ r .round ≡ self ⌝ }
+        ensures { λ r. ⌜ (verdictCode (r .answer) ≡ relayGiveCode self (now (out .entry)))
+            × (now (out .exit) ≡ relaySums self (now (out .entry)))
+            × (r .round ≡ self) ⌝ }
     {
         let round = self.round;
         let answer = round.give(round.size, self.is_known(), out);

@@ -156,9 +156,9 @@ pub fn make_table(
     generator: Symbol,
     table: &mut [Symbol],
 ) -> Planned
-    ensures code { λ r. ⌜ plannedCode r ≡ makerCode clusters size limit q generator (now (table .entry)) ⌝ }
-    ensures plan { λ r. ⌜ plannedPlan r ≡ makerPlan clusters size limit q generator (now (table .entry)) ⌝ }
-    ensures table { λ _. ⌜ now (table .exit) ≡ makerTable clusters size limit q generator (now (table .entry)) ⌝ }
+    ensures { λ r. ⌜ (plannedCode r ≡ makerCode clusters size limit q generator (now (table .entry)))
+        × (plannedPlan r ≡ makerPlan clusters size limit q generator (now (table .entry)))
+        × (now (table .exit) ≡ makerTable clusters size limit q generator (now (table .entry))) ⌝ }
 {
     if !counts_fit(clusters, size, limit) {
         return Planned::Refused(Refusal::OutOfBounds);
