@@ -1,5 +1,5 @@
 /*
- * Kortyghai for callers in C: plans, their records, the vet, key tables, keys, uploads.
+ * Kortyghai for callers in C: plans, their records, the vet, key tables, keys, uploads, frames.
  *
  * Every function answers one number of 64 bits, which packs the number of the refusal (0: nothing is refused) and its two
  * details. Take them out by the three macros below. A refused call writes nothing.
@@ -140,6 +140,25 @@ uint64_t kortyghai_upload(uint16_t q, size_t length, const uint16_t *readings, s
  */
 uint64_t kortyghai_unmask(uint16_t q, size_t length, const uint16_t *upload, size_t upload_len, const uint16_t *key,
                           size_t key_len, uint16_t *out, size_t out_len);
+
+/*
+ * Counts a frame into a relay's round. The round's state is handed over in numbers; who has reported and the sums are lent, and
+ * stand afterwards as the step leaves them. A new round has reported 0 and 64 sums of 0.
+ *
+ *     length     L, from 1 to 64
+ *     cluster    the relay's own number, from 1 to U
+ *     number     the round's number
+ *     reported   one bit for each user of the cluster: user v has bit v - 1
+ *     sums       exactly 64 symbols, 0 past the first L
+ *     sender     the user's number v, from 1 to V
+ *     said       the round number that the frame has
+ *     block      exactly L symbols
+ *
+ * Refuses, the first that holds: of the state 1, 2, 9, 8, 3, then of the frame 8, 4, 3, 14, 11.
+ */
+uint64_t kortyghai_count_frame(size_t clusters, size_t size, uint16_t q, size_t length, size_t cluster, uint32_t number,
+                               uint16_t *reported, uint16_t *sums, size_t sender, uint32_t said, const uint16_t *block,
+                               size_t block_len);
 
 #ifdef __cplusplus
 }

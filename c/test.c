@@ -155,6 +155,24 @@ static void blocks(void) {
     CHECK(same(back, readings, 4) && marked(back + 4, 1));
 }
 
+static void frames(void) {
+    /* cluster 1 of the small pool in round 9: uploads 4 and 1 sum to 0 */
+    const uint16_t first[1] = {4}, second[1] = {1}, bad[1] = {5};
+    uint16_t reported = 0, sums[64] = {0};
+    CHECK(is(kortyghai_count_frame(2, 2, 5, 1, 1, 9, &reported, sums, 1, 9, first, 1), 0, 0, 0));
+    CHECK(reported == 1 && sums[0] == 4);
+    CHECK(is(kortyghai_count_frame(2, 2, 5, 1, 1, 9, &reported, sums, 1, 9, second, 1), 11, 0, 0));
+    CHECK(is(kortyghai_count_frame(2, 2, 5, 1, 1, 9, &reported, sums, 2, 8, second, 1), 14, 0, 0));
+    CHECK(is(kortyghai_count_frame(2, 2, 5, 1, 1, 9, &reported, sums, 2, 9, bad, 1), 3, 0, 0));
+    CHECK(is(kortyghai_count_frame(2, 2, 5, 1, 1, 9, &reported, sums, 2, 9, second, 0), 4, 0, 0));
+    CHECK(is(kortyghai_count_frame(2, 2, 5, 1, 1, 9, &reported, sums, 3, 9, second, 1), 8, 0, 0));
+    CHECK(is(kortyghai_count_frame(2, 2, 5, 1, 3, 9, &reported, sums, 2, 9, second, 1), 8, 0, 0));
+    CHECK(is(kortyghai_count_frame(2, 2, 9, 1, 1, 9, &reported, sums, 2, 9, second, 1), 2, 0, 0));
+    CHECK(reported == 1 && sums[0] == 4 && sums[1] == 0);
+    CHECK(is(kortyghai_count_frame(2, 2, 5, 1, 1, 9, &reported, sums, 2, 9, second, 1), 0, 0, 0));
+    CHECK(reported == 3 && sums[0] == 0);
+}
+
 int main(void) {
     vet();
     vet_record();
@@ -162,6 +180,7 @@ int main(void) {
     make_table();
     derive_keys();
     blocks();
+    frames();
     printf("%d tests, %d wrong\n", tests, wrong);
     return wrong > 0;
 }

@@ -1,6 +1,6 @@
--- Document 000 asks for matrices of full rank: in its Lemma 1 and 2 the rows that are watched and those of the coalition together, in its Lemma 3 any
--- R rows of the table. That is enough, and it is more than is needed: rows of users that nobody watches together may depend on each other. Here the rows
--- of users 1 and 3, of two clusters, are the same.
+-- Document 000 asks for matrices of full rank: its Lemma 1 and 2 of the rows that are watched and those of the coalition together, its Lemma 3 of any R
+-- rows of the table. A pair can do without the first, and a plan without the last: here the rows of users 1 and 3, of two clusters, are the same. (A plan
+-- that fails Lemma 1 or 2 for some pair does leak, to that pair or to another; docs/DECISIONS.md says why.)
 use Prim.Native.Nat.{ℕ}
 use mathlib.Core.Path.{_≡_, refl, sym}
 use mathlib.Core.Bool.{false}
