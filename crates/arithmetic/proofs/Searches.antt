@@ -6,6 +6,7 @@ use mathlib.Core.Logic.{_⊎_, inl, inr, ⊎-elim}
 use native.Mathlib.Nat.{lt-suc-self, eq-or-lt-of-le, le-of-suc-le-suc, not-suc-le-zero}
 use native.Mathlib.Omega.{arith}
 use lib.Dec.{T}
+pub use Rattle.refusals.proofs.CodeLaws.{T-and, and-T}
 use Rattle.arithmetic.specs.Search.{anyTo, allTo}
 
 -- ---- Booleans
@@ -46,14 +47,6 @@ or-left false b t = absurd t
 pub or-right : (a b : Bool) → T b → T (a || b)
 or-right true b t = tt
 or-right false b t = t
-
-pub T-and : (a b : Bool) → T (a && b) → T a × T b
-T-and true b t = (tt, t)
-T-and false b t = absurd t
-
-pub and-T : (a b : Bool) → T a → T b → T (a && b)
-and-T true b s t = t
-and-T false b s t = absurd s
 
 -- ---- searches
 

@@ -43,9 +43,12 @@ abbrev pub firstOf : List (Bool × Code) → Code
 firstOf [] = accepted
 firstOf (check ∷ checks) = cond (check .0) (check .1) (firstOf checks)
 
+abbrev pub isAccepted : Code → Bool
+isAccepted c = eqb (c .number) 0
+
 -- what stands after a call: the new value where nothing is refused, else the old one
 abbrev pub ifAccepted : {A : Type 0} → Code → A → A → A
-ifAccepted c new old = cond (eqb (c .number) 0) new old
+ifAccepted c new old = cond (isAccepted c) new old
 
 -- what an entry with one number as its result says: the refusal, and the number, which is 0 where it refuses
 pub record Outcome : Type 0 where

@@ -17,7 +17,7 @@ use Rattle.arithmetic.proofs.Searches.{T→true, true→T, T-and}
 use Rattle.arithmetic.proofs.PrimeLaws.{true-prime}
 use Rattle.vetting.specs.Plans.{countsFit}
 use Rattle.vetting.proofs.PlanBounds.{Counts, counts-known}
-use Rattle.vetting.proofs.Orders.{first-accepts}
+use Rattle.refusals.proofs.Orders.{first-accepts}
 use Rattle.rounds.specs.declared.Round.{Round}
 use Rattle.rounds.specs.Blocks.{lengthFits}
 use Rattle.rounds.specs.Ledger.{Frame, named}

@@ -18,7 +18,7 @@ use Rattle.vetting.specs.Walk.{pairs}
 use Rattle.vetting.specs.Verdict.{columnSum, leakCheck, otherChecks, verdict}
 use Rattle.vetting.specs.Keys.{keysOf}
 use Rattle.vetting.proofs.Joins.{join-part}
-use Rattle.vetting.proofs.Orders.{first-accepts}
+use Rattle.refusals.proofs.Orders.{first-accepts}
 use Rattle.vetting.proofs.VerdictLaws.{columns-numbered, columns-passed}
 use Rattle.rounds.specs.Blocks.{uploadOf}
 

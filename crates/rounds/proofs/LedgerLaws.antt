@@ -21,7 +21,7 @@ use Rattle.arithmetic.proofs.PrimeLaws.{prime-pos, below-at, at-below}
 use Rattle.matrices.specs.Linear.{at}
 use Rattle.secrecy.specs.Lists.{tab}
 use Rattle.secrecy.proofs.ListLaws.{at-tab, length-tab, tab-at, tab-cong}
-use Rattle.vetting.proofs.Orders.{rest-decides}
+use Rattle.refusals.proofs.Orders.{rest-decides}
 use Rattle.rounds.specs.declared.Round.{Round}
 use Rattle.rounds.specs.Ledger.{Frame, named, bitsOf, countedAt}
 use Rattle.rounds.specs.Rounds.{hasBit, oneOf, sumsFit, stateChecks, hasReported, after, frameChecks, giveChecks, stepCode, stepped, answersOf, runOf, noted, ledgerAnswers, ledgerOf}

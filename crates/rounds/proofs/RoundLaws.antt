@@ -24,7 +24,7 @@ use Rattle.secrecy.specs.Lists.{tab}
 use Rattle.secrecy.specs.Counts.{sumTo}
 use Rattle.secrecy.proofs.Sums.{sum-cong, sum-zero}
 use Rattle.secrecy.proofs.ListLaws.{at-tab, tab-at, length-tab}
-use Rattle.vetting.proofs.Orders.{first-accepts, rest-decides}
+use Rattle.refusals.proofs.Orders.{first-accepts, rest-decides}
 use Rattle.rounds.specs.declared.Round.{Round}
 use Rattle.rounds.specs.Ledger.{Frame, named, countedAt}
 use Rattle.rounds.specs.Rounds.{sumsFit, openChecks, opened, stateChecks, hasReported, frameChecks, giveChecks, stepCode, runOf, noted, ledgerOf}

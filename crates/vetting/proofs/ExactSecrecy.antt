@@ -24,7 +24,7 @@ use Rattle.vetting.specs.declared.Pair.{Pair}
 use Rattle.vetting.specs.Plans.{poolOf, usersOf}
 use Rattle.vetting.specs.Walk.{pairs}
 use Rattle.vetting.specs.Verdict.{columnSum, leakCheck, otherChecks, vetChecks, verdict, columnChecks}
-use Rattle.vetting.proofs.Orders.{rest-decides, first-accepts}
+use Rattle.refusals.proofs.Orders.{rest-decides, first-accepts}
 use Rattle.vetting.proofs.VerdictLaws.{table-passed, columns-numbered, columns-passed}
 pub use Rattle.vetting.proofs.PairLists.{InWalk, pairs-in, in-pairs}
 

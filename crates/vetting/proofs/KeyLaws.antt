@@ -25,7 +25,7 @@ use Rattle.vetting.specs.declared.Plan.{Plan}
 use Rattle.vetting.specs.Plans.{poolOf, usersOf}
 use Rattle.vetting.specs.Verdict.{vetChecks}
 use Rattle.vetting.specs.Keys.{keysOf, keyChecks}
-use Rattle.vetting.proofs.Orders.{rest-decides, first-accepts}
+use Rattle.refusals.proofs.Orders.{rest-decides, first-accepts}
 use Rattle.vetting.proofs.PlanLaws.{Vetted, vetted, vet-numbered}
 use Rattle.vetting.proofs.Fronts.{length-part, part-at}
 use Rattle.vetting.proofs.Joins.{length-join, join-part}

@@ -6,7 +6,6 @@ mod GatherLaws
 mod WalkLaws
 mod BaseLaws
 pub mod VerdictLaws
-pub mod Orders
 mod PairLists
 pub mod PlanBounds
 mod PickedLaws

@@ -31,7 +31,7 @@ use Rattle.vetting.specs.Plans.{usersOf, countsFit, inBounds}
 use Rattle.vetting.specs.Walk.{pairs}
 use Rattle.vetting.specs.Verdict.{columnSum, columnCheck, leakCheck, otherChecks, vetChecks, verdict}
 use Rattle.vetting.specs.Maker.{rateOf, planOf, entry, lastEntry, madeTable, makerChecks}
-use Rattle.vetting.proofs.Orders.{none-decide, first-accepts}
+use Rattle.refusals.proofs.Orders.{none-decide, first-accepts}
 use Rattle.vetting.proofs.PlanLaws.{Counts, counts-known, some-users, Bounds, bounds-known}
 use Rattle.vetting.proofs.Fronts.{length-part, part-at}
 

@@ -18,7 +18,7 @@ use Rattle.vetting.specs.Plans.{usersOf, countsFit, inBounds}
 use Rattle.vetting.specs.Walk.{pairs}
 use Rattle.vetting.specs.Verdict.{columnCheck, leakCheck, vetChecks}
 pub use Rattle.vetting.proofs.PlanBounds.{Counts, counts-known, some-users, Bounds, bounds-known, few-numbers}
-use Rattle.vetting.proofs.Orders.{numbered-append, numbered-map}
+use Rattle.refusals.proofs.Orders.{numbered-append, numbered-map}
 
 -- ---- a plan and a key table that the vet accepts
 

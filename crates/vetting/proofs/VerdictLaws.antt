@@ -25,7 +25,7 @@ use Rattle.vetting.specs.Plans.{poolOf, usersOf, inBounds}
 use Rattle.vetting.specs.Walk.{pairs}
 use Rattle.vetting.specs.Verdict.{columnSum, columnCheck, leakCheck, otherChecks, verdict, tableChecks, columnChecks}
 use Rattle.vetting.specs.Walking.{baseTable, hit, walked, foundCode}
-use Rattle.vetting.proofs.Orders.{rest-decides}
+use Rattle.refusals.proofs.Orders.{rest-decides}
 use Rattle.vetting.proofs.Deciding.{pair-verdict, found-verdict}
 
 -- ---- a plan and a table that passed

@@ -2,7 +2,7 @@ use mathlib.Core.Path.{_≡_, sym, ap, _∙_}
 use lib.ListN.{length}
 use borrow.Author.Needs.{needs}
 use Rattle.refusals.specs.Codes.{accepted, verdictCode, firstOf}
-use Rattle.vetting.proofs.Orders.{first-refuses, rest-decides}
+use Rattle.refusals.proofs.Orders.{first-refuses, rest-decides}
 use Rattle.rounds.specs.Rounds.{stateChecks}
 use Rattle.rounds.specs.Machine.{lentChecks}
 use Rattle.rounds.proofs.CheckLaws.{good-state}

@@ -8,7 +8,7 @@ use Rattle.refusals.specs.Codes.{accepted, verdictCode, firstOf}
 use Rattle.vetting.specs.Plans.{usersOf}
 use Rattle.vetting.specs.Verdict.{vetChecks}
 use Rattle.vetting.specs.Keys.{keyChecks}
-use Rattle.vetting.proofs.Orders.{first-refuses}
+use Rattle.refusals.proofs.Orders.{first-refuses}
 use Rattle.vetting.proofs.PlanLaws.{Vetted, vetted}
 use Rattle.vetting.proofs.KeyLaws.{blockChecks, blocks-decide}
 use Rattle.vetting.proofs.keys.check_keys.Statement.{statement}

@@ -17,7 +17,7 @@ use Rattle.vetting.specs.Plans.{usersOf, inBounds, noPlan, plannedCode, 
 use Rattle.vetting.specs.Verdict.{vetChecks, verdict}
 use Rattle.vetting.specs.Records.{start, planRead, tableRead, readChecks, readVerdict, padded}
 use Rattle.vetting.specs.Program.{programCode}
-use Rattle.vetting.proofs.Orders.{first-refuses, rest-decides}
+use Rattle.refusals.proofs.Orders.{first-refuses, rest-decides}
 use Rattle.vetting.proofs.RecordChecks.{Readable, readable}
 use Rattle.vetting.proofs.Bytes.{length-words}
 use Rattle.vetting.proofs.program.vet_record.Statement.{statement}

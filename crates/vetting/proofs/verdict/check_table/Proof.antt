@@ -3,7 +3,7 @@ use mathlib.Core.List.{[]}
 use Rattle.vetting.specs.Verdict.{tableChecks, columnChecks}
 use Rattle.refusals.specs.Codes.{accepted, verdictCode, firstOf}
 use Rattle.arithmetic.proofs.PrimeLaws.{prime-pos}
-use Rattle.vetting.proofs.Orders.{first-refuses, rest-decides}
+use Rattle.refusals.proofs.Orders.{first-refuses, rest-decides}
 use Rattle.vetting.proofs.VerdictLaws.{table-passed}
 use borrow.Author.Needs.{needs}
 use Rattle.vetting.proofs.verdict.check_table.Statement.{statement}

@@ -5,7 +5,7 @@ use Rattle.arithmetic.proofs.PrimeLaws.{prime-pos}
 use Rattle.vetting.specs.Walk.{pairs}
 use Rattle.vetting.specs.Verdict.{leakCheck, otherChecks, verdict, columnChecks}
 use Rattle.vetting.specs.Walking.{foundCode}
-use Rattle.vetting.proofs.Orders.{first-refuses}
+use Rattle.refusals.proofs.Orders.{first-refuses}
 use Rattle.vetting.proofs.VerdictLaws.{table-passed, columns-numbered, walk-verdict}
 use borrow.Author.Needs.{needs}
 use Rattle.vetting.proofs.verdict.vet.Statement.{statement}
