@@ -10,7 +10,7 @@ ghost use Rattle.rounds.specs.Blocks.{blockCode, uploadAfter, unmaskAfter};
 ghost use Rattle.rounds.specs.Ledger.{frame};
 ghost use Rattle.exports.specs.Packed.{packed};
 ghost use Rattle.exports.specs.States.{frameCode, frameNext};
-ghost use Rattle.vetting.specs.Program.{programCode};
+ghost use Rattle.reports.specs.Program.{programCode};
 ghost use Rattle.exports.specs.Reading.{countsOf, entryCode, entryTable, entryCounts};
 use arithmetic::Symbol;
 use refusals::Code;
@@ -180,7 +180,7 @@ pub extern "C" fn kortyghai_count_frame(
 pub extern "C" fn kortyghai_vet_record(bytes: &[u8]) -> u64
     ensures { λ r. ⌜ r ≡ packed (programCode (now (bytes .entry))) ⌝ }
 {
-    pack(verdict_code(vetting::vet_record(bytes)))
+    pack(verdict_code(reports::vet_record(bytes)))
 }
 
 // How many numbers a plan has beside its key table.

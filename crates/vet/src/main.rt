@@ -6,7 +6,7 @@ fn main() {
     // One byte more than a program takes, so that a longer input is seen.
     let mut buffer = io::large_buffer();
     let n = io::read_full(STDIN_FILENO, &mut buffer);
-    let line = vetting::vet_line(&buffer[..n]);
+    let line = reports::vet_line(&buffer[..n]);
     let text = line.text;
     let end = line.length;
     io::write_all(STDOUT_FILENO, &text[..end]);

@@ -2,7 +2,7 @@
 use libc::STDOUT_FILENO;
 
 fn write_line(bytes: &[u8]) {
-    let line = vetting::vet_line(bytes);
+    let line = reports::vet_line(bytes);
     let text = line.text;
     let end = line.length;
     io::write_all(STDOUT_FILENO, &text[..end]);

@@ -16,8 +16,8 @@ const INPUTS: usize = 20000;
 // The line, and the verdict that callers of the library get.
 fn compared(t: Tally, bytes: &[u8]) -> Tally {
     let expected = second::verdict(bytes);
-    let line = vetting::vet_line(bytes);
-    let code = refusals::verdict_code(vetting::vet_record(bytes));
+    let line = reports::vet_line(bytes);
+    let code = refusals::verdict_code(reports::vet_record(bytes));
     let same = text::says(line, expected) && text::same_code(code, expected);
     t.count(expected.number, same)
 }

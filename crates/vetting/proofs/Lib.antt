@@ -26,5 +26,4 @@ pub mod Bytes
 mod PlanSizes
 mod Fills
 mod Trailers
-mod LineLaws
 mod RecordExamples

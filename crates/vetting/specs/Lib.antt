@@ -1,5 +1,5 @@
 -- Plans and the verdict on them. Plans has the plan's counts and bounds; Walk the pairs in their order; Verdict the vet's checks; Keys, Maker and Records
--- what those entries refuse and write; Program the line that the program prints. Walking is no part of it: what private functions compute.
+-- what those entries refuse and write. Walking is no part of it: what private functions compute.
 pub mod Plans
 pub mod Walk
 pub mod Verdict
@@ -7,4 +7,3 @@ pub mod Walking
 pub mod Keys
 pub mod Maker
 pub mod Records
-pub mod Program

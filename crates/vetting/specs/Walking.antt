@@ -15,7 +15,6 @@ use Rattle.refusals.specs.declared.Code.{Code}
 use Rattle.refusals.specs.Codes.{accepted}
 use Rattle.vetting.specs.declared.Plan.{Plan}
 use Rattle.vetting.specs.declared.Pair.{Pair}
-use Rattle.vetting.specs.declared.Line.{Line}
 use Rattle.vetting.specs.declared.Found.{Found}
 use Rattle.vetting.specs.declared.Found.the-variants.{At, Nothing}
 use Rattle.vetting.specs.Plans.{usersOf}
@@ -106,9 +105,3 @@ walked P T = firstHit (hit P T) (pairs (P .clusters) (P .size) (P .limit))
 abbrev pub foundCode : Found → Code
 foundCode (At p) = record { number = 7; first = p .coalition; second = p .observer }
 foundCode Nothing = accepted
-
--- ---- a line, byte by byte
-
-unfoldable pub typed : Line → List ℕ → Line
-typed l [] = l
-typed l (byte ∷ bytes) = typed (record { text = set (l .text) (l .length) byte; length = l .length + 1 }) bytes

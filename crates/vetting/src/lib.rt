@@ -2,7 +2,6 @@
 mod bounds;
 mod keys;
 mod maker;
-mod program;
 mod records;
 mod verdict;
 mod walk;
@@ -11,8 +10,6 @@ use arithmetic::Symbol;
 pub use bounds::counts_fit;
 pub use keys::derive_keys;
 pub use maker::make_table;
-pub use program::vet_line;
-pub use program::vet_record;
 pub use records::READ_TABLE;
 pub use records::read_record;
 pub use records::write_record;
@@ -44,10 +41,4 @@ pub struct Pair {
 pub enum Found {
     At(Pair),
     Nothing,
-}
-
-// A line of text of at most 20 bytes, 0 past its end.
-pub struct Line {
-    pub text: [u8; 20],
-    pub length: usize,
 }

@@ -5,12 +5,12 @@ use mathlib.Core.List.{List, [], _∷_, _++_}
 use native.Mathlib.Omega.{arith}
 use lib.ListN.{length, length-append}
 use borrow.Author.Needs.{needs}
-use Rattle.vetting.specs.declared.Line.{Line}
-use Rattle.vetting.specs.Program.{decimal, field, lineWith}
-use Rattle.vetting.specs.Walking.{typed}
-use Rattle.vetting.proofs.LineLaws.{typed-with, digits-length}
-use Rattle.vetting.proofs.program.line_of.Statement.{statement}
-use Rattle.vetting.proofs.program.line_of.Tie as tie
+use Rattle.reports.specs.declared.Line.{Line}
+use Rattle.reports.specs.Program.{decimal, field, lineWith}
+use Rattle.reports.specs.Typing.{typed}
+use Rattle.reports.proofs.LineLaws.{typed-with, digits-length}
+use Rattle.reports.proofs.line_of.Statement.{statement}
+use Rattle.reports.proofs.line_of.Tie as tie
 
 field-length : (n end : ℕ) → length (field n end) ≤ 6
 field-length n end = omega (arith, length-append (decimal n) (end ∷ []), digits-length 5 n)

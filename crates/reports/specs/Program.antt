@@ -7,9 +7,9 @@ use lib.ListN.{length}
 use Rattle.refusals.specs.declared.Code.{Code}
 use Rattle.refusals.specs.Codes.{code, firstOf}
 use Rattle.matrices.specs.Linear.{zeros}
-use Rattle.vetting.specs.declared.Line.{Line}
+use Rattle.reports.specs.declared.Line.{Line}
 use Rattle.vetting.specs.Records.{planRead, tableRead, readChecks}
 use Rattle.vetting.specs.Verdict.{vetChecks}
 
 -- "input above 65,535 bytes is 4, before all else"; then the reader's checks, with a table of its own that is long enough, and the vet's
 abbrev pub programChecks : List ℕ → List (Bool × Code)

@@ -8,9 +8,9 @@ use lib.Dec.{ltb}
 use lib.ListN.{length, set, length-append}
 use borrow.Author.Tests.{lt-ltb, le-ltb}
 use Rattle.matrices.specs.Linear.{zeros}
-use Rattle.vetting.specs.declared.Line.{Line}
-use Rattle.vetting.specs.Program.{digitsOf, decimal, lineWith}
-use Rattle.vetting.specs.Walking.{typed}
+use Rattle.reports.specs.declared.Line.{Line}
+use Rattle.reports.specs.Program.{digitsOf, decimal, lineWith}
+use Rattle.reports.specs.Typing.{typed}
 
 -- ---- typing
 

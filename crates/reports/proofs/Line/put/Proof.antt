@@ -1,18 +1,15 @@
 use mathlib.Core.Path.{refl}
 use borrow.Author.Needs.{needs}
-use Rattle.vetting.specs.Walking.{typed}
-use Rattle.vetting.proofs.Line.put.Statement.{statement}
-use Rattle.vetting.proofs.Line.put.Tie as tie
+use Rattle.reports.specs.Typing.{typed}
+use Rattle.reports.proofs.Line.put.Statement.{statement}
+use Rattle.reports.proofs.Line.put.Tie as tie
 
--- src/program.rt:57:9
 element-write-self : tie.Need-element-write-self
 element-write-self c = search needs
 
--- src/program.rt:58:23
 add-self : tie.Need-add-self
 add-self c = search needs
 
--- src/program.rt:52:5
 returns : tie.Need-returns
 unfolding typed
 returns c = refl

@@ -1,4 +1,4 @@
-// What the program `vet` does with the bytes that it reads.
+// Reports: what the program `vet` does with the bytes that it reads.
 ghost use mathlib.Core.Path.{_≡_};
 ghost use mathlib.Core.Bool.{true, false};
 ghost use mathlib.Core.List.{[], _∷_, _++_};
@@ -6,19 +6,23 @@ ghost use Prim.Native.Nat.{_+_, _*_, _≤_, _<_};
 ghost use lib.ListN.{length};
 ghost use Rattle.refusals.specs.Codes.{verdictCode};
 ghost use Rattle.matrices.specs.Linear.{zeros};
-ghost use Rattle.vetting.specs.Program.{programCode, decimal, field, lineOf, lineWith};
-ghost use Rattle.vetting.specs.Walking.{typed};
-use crate::Line;
-use crate::Planned;
-use crate::read_record;
-use crate::records::READ_TABLE;
-use crate::records::symbols;
-use crate::verdict::vet;
+ghost use Rattle.reports.specs.Program.{programCode, decimal, field, lineOf, lineWith};
+ghost use Rattle.reports.specs.Typing.{typed};
 use arithmetic::Symbol;
 use refusals::Code;
 use refusals::Refusal;
 use refusals::Verdict;
 use refusals::verdict_code;
+use vetting::Planned;
+use vetting::READ_TABLE;
+use vetting::read_record;
+use vetting::vet;
+
+// A line of text of at most 20 bytes, 0 past its end.
+pub struct Line {
+    pub text: [u8; 20],
+    pub length: usize,
+}
 
 // The most bytes that a program takes.
 const MOST_BYTES: usize = 65535;
@@ -41,7 +45,7 @@ pub fn vet_record(bytes: &[u8]) -> Verdict
     match read_record(bytes, &mut table) {
         Planned::Refused(refusal) => Verdict::Refused(refusal),
         Planned::Made(plan) => {
-            let n = symbols(plan);
+            let n = plan.clusters * plan.size * plan.rate;
             vet(plan, &table[..n])
         }
     }

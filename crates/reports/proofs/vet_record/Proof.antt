@@ -12,16 +12,17 @@ use Rattle.refusals.specs.declared.Code.{Code}
 use Rattle.refusals.specs.Codes.{accepted, code, codeOf, firstOf}
 use Rattle.refusals.proofs.CodeLaws.{accepted-takes}
 use Rattle.matrices.specs.Linear.{zeros}
 use Rattle.vetting.specs.declared.Plan.{Plan}
 use Rattle.vetting.specs.Plans.{usersOf, inBounds, noPlan, plannedCode, plannedPlan}
 use Rattle.vetting.specs.Verdict.{vetChecks, verdict}
 use Rattle.vetting.specs.Records.{start, planRead, tableRead, readChecks, readVerdict, padded}
-use Rattle.vetting.specs.Program.{programCode}
+use Rattle.reports.specs.Program.{programCode}
 use Rattle.refusals.proofs.Orders.{first-refuses, rest-decides}
 use Rattle.vetting.proofs.RecordChecks.{Readable, readable}
 use Rattle.vetting.proofs.Bytes.{length-words}
-use Rattle.vetting.proofs.program.vet_record.Statement.{statement}
-use Rattle.vetting.proofs.program.vet_record.Tie as tie
+use Rattle.vetting.proofs.PlanBounds.{Bounds, bounds-known, few-numbers}
+use Rattle.reports.proofs.vet_record.Statement.{statement}
+use Rattle.reports.proofs.vet_record.Tie as tie
 
 -- an input that is not too long
 short : (B lent : List ℕ) → lent ≡ zeros 256 → length B ≤ 65535 → firstOf (readChecks B lent ++ vetChecks (planRead B) (tableRead B)) ≡ programCode B
@@ -60,29 +61,33 @@ module _ (c : tie.After-plan) where
   in-range : inBounds (c .plan .given .0 .0) ≡ true
   in-range = ap inBounds plan-is ∙ passed .bounds
 
-  -- the first n symbols of what it holds
-  module _ (n : ℕ) (counted : n ≡ usersOf (c .plan .given .0 .0) * c .plan .given .0 .0 .rate) where
-    whole : n ≡ length (tableRead B)
-    whole =
-        counted ∙ ap (λ (X : Plan). usersOf X * X .rate) plan-is
-        ∙ sym (length-words (usersOf (planRead B) * planRead B .rate) B (start B + 6))
+  -- the first symbols of what it holds
+  abbrev n : ℕ
+  n = usersOf (c .plan .given .0 .0) * c .plan .given .0 .0 .rate
 
-    part-is : take n filled ≡ tableRead B
-    part-is = ap₂ (λ (k : ℕ) (l : List ℕ). take k l) whole table-is ∙ take-append-seam (tableRead B) (zeros (256 - length (tableRead B)))
+  known : Bounds (c .plan .given .0 .0)
+  known = bounds-known (c .plan .given .0 .0) in-range
 
-    inside : n ≤ length filled
-    inside =
-        omega (arith, whole, ap length table-is, length-append (tableRead B) (zeros (256 - length (tableRead B))))
+  whole : n ≡ length (tableRead B)
+  whole =
+      ap (λ (X : Plan). usersOf X * X .rate) plan-is
+      ∙ sym (length-words (usersOf (planRead B) * planRead B .rate) B (start B + 6))
 
-    part-length : n ≡ length (take n filled)
-    part-length = whole ∙ sym (ap length part-is)
+  part-is : take n filled ≡ tableRead B
+  part-is = ap₂ (λ (k : ℕ) (l : List ℕ). take k l) whole table-is ∙ take-append-seam (tableRead B) (zeros (256 - length (tableRead B)))
 
-    vetted : (v : Code) → v ≡ verdict (c .plan .given .0 .0) (take n filled) → v ≡ firstOf (readChecks B lent ++ vetChecks (planRead B) (tableRead B))
-    vetted v e =
-        e ∙ ap₂ verdict plan-is part-is
-        ∙ rest-decides (readChecks B lent) (vetChecks (planRead B) (tableRead B)) tt told
+  inside : n ≤ length filled
+  inside =
+      omega (arith, whole, ap length table-is, length-append (tableRead B) (zeros (256 - length (tableRead B))))
 
--- src/program.rt:38:9
+  part-length : n ≡ length (take n filled)
+  part-length = whole ∙ sym (ap length part-is)
+
+  vetted : (v : Code) → v ≡ verdict (c .plan .given .0 .0) (take n filled) → v ≡ firstOf (readChecks B lent ++ vetChecks (planRead B) (tableRead B))
+  vetted v e =
+      e ∙ ap₂ verdict plan-is part-is
+      ∙ rest-decides (readChecks B lent) (vetChecks (planRead B) (tableRead B)) tt told
+
 returns : tie.Need-returns
 returns c = simp (lt-ltb _ _ (c .if1 .taken))
 
@@ -101,14 +106,17 @@ enum-known-refusal c = search needs
 enum-known-plan : tie.Need-enum-known-plan
 enum-known-plan c = search needs
 
-symbols-requires : tie.Need-symbols-requires
-symbols-requires c κs = in-range (c .before)
+mul-n : tie.Need-mul-n
+mul-n c = omega (arith, known (c .before .before) .counts .few-users)
+
+mul-n-2 : tie.Need-mul-n-2
+mul-n-2 c = omega (arith, few-numbers (known (c .before .before .before)))
 
 array-share-prefix-table : tie.Need-array-share-prefix-table
-array-share-prefix-table c = inside (c .before .before) (c .symbols .result) (c .symbols .ensures)
+array-share-prefix-table c = inside (c .before .before .before)
 
 slice-aggregate-vet : tie.Need-slice-aggregate-vet
-slice-aggregate-vet c = part-length (c .before .before .before) (c .before .symbols .result) (c .before .symbols .ensures)
+slice-aggregate-vet c = part-length (c .before .before .before .before)
 
 vet-requires : tie.Need-vet-requires
 vet-requires c κs = search needs
@@ -124,8 +132,8 @@ returns-2 c =
 
 returns-3 : tie.Need-returns-3
 returns-3 c =
-    let p = c .before .before .before .before in
-    vetted p (c .before .before .symbols .result) (c .before .before .symbols .ensures) _ (c .vet .ensures)
+    let p = c .before .before .before .before .before in
+    vetted p _ (c .vet .ensures)
     ∙ short (B p) (lent p) (p .before .before .before .before .before .empty-table .ensures) (p .before .before .before .before .before .before .if1 .left)
 
 pub vet-record-spec : {M : Type 1} → statement M
@@ -138,7 +146,8 @@ vet-record-spec =
     read-record-requires
     enum-known-refusal
     enum-known-plan
-    symbols-requires
+    mul-n
+    mul-n-2
     array-share-prefix-table
     slice-aggregate-vet
     vet-requires

@@ -3,12 +3,12 @@ use mathlib.Core.Path.{sym, ap, _∙_}
 use mathlib.Core.List.{[], _∷_}
 use native.Mathlib.Omega.{arith}
 use borrow.Author.Needs.{needs}
-use Rattle.vetting.specs.declared.Line.{Line}
-use Rattle.vetting.specs.Program.{decimal}
-use Rattle.vetting.specs.Walking.{typed}
-use Rattle.vetting.proofs.LineLaws.{typed-length, typed-append, digits-length}
-use Rattle.vetting.proofs.Line.put_field.Statement.{statement}
-use Rattle.vetting.proofs.Line.put_field.Tie as tie
+use Rattle.reports.specs.declared.Line.{Line}
+use Rattle.reports.specs.Program.{decimal}
+use Rattle.reports.specs.Typing.{typed}
+use Rattle.reports.proofs.LineLaws.{typed-length, typed-append, digits-length}
+use Rattle.reports.proofs.Line.put_field.Statement.{statement}
+use Rattle.reports.proofs.Line.put_field.Tie as tie
 
 put-decimal-requires : tie.Need-put-decimal-requires
 put-decimal-requires c κs = search needs
