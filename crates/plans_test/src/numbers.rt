@@ -2,9 +2,11 @@
 ghost use Prim.Native.Nat.{_*_, _≤_};
 use arithmetic::Symbol;
 
-// The next state of a linear congruential generator modulo 2^32.
+// The next state, of 32 bits: the upper half is mixed into the lower one, and by the product the lower into the upper, so that no two runs of states keep
+// a fixed difference.
 pub fn step(x: usize) -> usize {
-    (x % 4294967296 * 1664525 + 1013904223) % 4294967296
+    let n = x % 4294967296;
+    ((n ^ (n / 65536)) % 4294967296 * 73244475 + 1013904223) % 4294967296
 }
 
 // The state with which a case begins. The first states of near numbers are near each other, hence the steps.
