@@ -86,12 +86,16 @@ impl Round {
         ensures round { λ r. ⌜ r .round ≡ openRound clusters size q length known number ⌝ }
     {
         let answer = check_opening(clusters, size, q, length, known);
-        let round = if answer.is_accepted() {
-            Round::empty(clusters, size, q, length, number)
-        } else {
-            Round::empty(0, 0, 0, 0, 0)
-        };
-        Step { answer, round }
+        if !answer.is_accepted() {
+            return Step {
+                answer,
+                round: Round::empty(0, 0, 0, 0, 0),
+            };
+        }
+        Step {
+            answer,
+            round: Round::empty(clusters, size, q, length, number),
+        }
     }
 
     // Whether the sender's bit is set.
@@ -211,12 +215,16 @@ impl Round {
         ensures round { λ r. ⌜ r .round ≡ stepped senders known self (frame sender number (now (block .entry))) ⌝ }
     {
         let answer = self.check_frame(senders, known, sender, number, block);
-        let round = if answer.is_accepted() {
-            self.counted(sender, block)
-        } else {
-            self
-        };
-        Step { answer, round }
+        if !answer.is_accepted() {
+            return Step {
+                answer,
+                round: self,
+            };
+        }
+        Step {
+            answer,
+            round: self.counted(sender, block),
+        }
     }
 
     // Whether everyone's bit is set; nobody else's is.

@@ -1,4 +1,5 @@
 use borrow.Author.Needs.{needs}
+use borrow.Author.Tests.{not-true, not-false}
 use mathlib.Core.Path.{_≡_, sym, _∙_}
 use mathlib.Core.List.{[], _∷_}
 use Rattle.refusals.specs.declared.Code.{Code}
@@ -25,14 +26,20 @@ theFrame s = frame (s .args .sender) (s .args .number) (s .args .block .now)
 abbrev code : tie.Start → Code
 code s = stepCode (s .args .senders) (s .args .known) (s .args .self) (theFrame s)
 
-told : (c : tie.Then1) → accepted ≡ code (c .before .before .before .before)
-told c = passes (c .before .before .check-frame .result) (c .before .before .check-frame .ensures) (c .before .is-accepted .ensures) (c .if1 .taken)
+told : (c : tie.Else1) → accepted ≡ code (c .before .before .before .before)
+told c = passes (c .before .before .check-frame .result) (c .before .before .check-frame .ensures) (c .before .is-accepted .ensures) (not-false _ (c .if1 .left))
 
 -- what the checks found
-passed : (c : tie.Then1) → (let s = c .before .before .before .before in Passed (s .args .senders) (s .args .self) [] (theFrame s))
+passed : (c : tie.Else1) → (let s = c .before .before .before .before in Passed (s .args .senders) (s .args .self) [] (theFrame s))
 passed c =
     let s = c .before .before .before .before in
     frame-known (s .args .senders) (s .args .known) (s .args .self) [] (theFrame s) (told c)
+
+returns : tie.Need-returns
+returns c =
+    let checked = c .before .before .check-frame in
+    let s = c .before .before .before .before in
+    (checked .ensures, sym (old-kept (code s) _ (s .args .self) (refuses (checked .result) (checked .ensures) (c .before .is-accepted .ensures) (not-true _ (c .if1 .taken)))))
 
 counted-requires : tie.Need-counted-requires
 counted-requires c κs =
@@ -40,9 +47,9 @@ counted-requires c κs =
     let p = passed c in
     can-count (s .args .senders) (s .args .known) (s .args .self) (theFrame s) p (s .pre (p .good .opening .fit))
 
-returns : tie.Need-returns
-returns c =
-    let t : tie.Then1 = c .before in
+returns-2 : tie.Need-returns-2
+returns-2 c =
+    let t : tie.Else1 = c .before in
     let s = t .before .before .before .before in
     let a = s .args in (
       t .before .before .check-frame .ensures,
@@ -51,13 +58,7 @@ returns c =
           ∙ sym (accepted-takes (code s) (after (a .senders) (a .known) (a .self) (theFrame s ∷ [])) (a .self) (told t)),
     )
 
-returns-2 : tie.Need-returns-2
-returns-2 c =
-    let checked = c .before .before .check-frame in
-    let s = c .before .before .before .before in
-    (checked .ensures, sym (old-kept (code s) _ (s .args .self) (refuses (checked .result) (checked .ensures) (c .before .is-accepted .ensures) (c .if1 .left))))
-
 pub count-spec : {M : Type 1} → statement M
 count-spec =
     tie.close
-    (tie.spec check-frame-requires is-accepted-requires counted-requires returns returns-2)
+    (tie.spec check-frame-requires is-accepted-requires returns counted-requires returns-2)

@@ -1,4 +1,5 @@
 use borrow.Author.Needs.{needs}
+use borrow.Author.Tests.{not-true, not-false}
 use mathlib.Core.Path.{sym, _∙_}
 use Rattle.refusals.proofs.CodeLaws.{accepted-takes, old-kept}
 use Rattle.rounds.specs.Rounds.{openCode, opened, noRound}
@@ -15,16 +16,16 @@ is-accepted-requires c κs = search needs
 empty-requires : tie.Need-empty-requires
 empty-requires c κs = search needs
 
-empty-requires-2 : tie.Need-empty-requires-2
-empty-requires-2 c κs = search needs
-
 returns : tie.Need-returns
 returns c =
     let b = c .before .before in
     let a = b .before .before .args in
     let v = b .before .check-opening .result in
     let e = b .before .check-opening .ensures in
-    (e, c .empty .ensures ∙ sym (accepted-takes (openCode (a .clusters) (a .size) (a .q) (a .length) (a .known)) (opened (a .clusters) (a .size) (a .q) (a .length) (a .number)) noRound (passes v e (b .is-accepted .ensures) (c .before .if1 .taken))))
+    (e, c .empty .ensures ∙ sym (old-kept (openCode (a .clusters) (a .size) (a .q) (a .length) (a .known)) (opened (a .clusters) (a .size) (a .q) (a .length) (a .number)) noRound (refuses v e (b .is-accepted .ensures) (not-true _ (c .before .if1 .taken)))))
+
+empty-requires-2 : tie.Need-empty-requires-2
+empty-requires-2 c κs = search needs
 
 returns-2 : tie.Need-returns-2
 returns-2 c =
@@ -32,7 +33,7 @@ returns-2 c =
     let a = b .before .before .args in
     let v = b .before .check-opening .result in
     let e = b .before .check-opening .ensures in
-    (e, c .empty2 .ensures ∙ sym (old-kept (openCode (a .clusters) (a .size) (a .q) (a .length) (a .known)) (opened (a .clusters) (a .size) (a .q) (a .length) (a .number)) noRound (refuses v e (b .is-accepted .ensures) (c .before .if1 .left))))
+    (e, c .empty2 .ensures ∙ sym (accepted-takes (openCode (a .clusters) (a .size) (a .q) (a .length) (a .known)) (opened (a .clusters) (a .size) (a .q) (a .length) (a .number)) noRound (passes v e (b .is-accepted .ensures) (not-false _ (c .before .if1 .left)))))
 
 pub open-spec : {M : Type 1} → statement M
 open-spec =
@@ -41,6 +42,6 @@ open-spec =
     check-opening-requires
     is-accepted-requires
     empty-requires
-    empty-requires-2
     returns
+    empty-requires-2
     returns-2)
