@@ -12,6 +12,7 @@ use Rattle.refusals.specs.Codes.{accepted, verdictCode, isAccepted, firstOf, if
 use Rattle.refusals.proofs.CodeLaws.{accepted-code, accepted-takes, numbered}
 use Rattle.refusals.proofs.Orders.{first-decides, rest-decides}
 
+-- v is the answer, c the code that it was promised to have, and r what the question gave
 module _ (v : Verdict) {c : Code} {r : Bool} (is : verdictCode v ≡ c) (asked : r ≡ isAccepted (verdictCode v)) where
   pub passes : r ≡ true → accepted ≡ c
   passes e = accepted-code v (sym asked ∙ e) ∙ is

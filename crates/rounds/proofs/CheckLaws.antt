@@ -13,7 +13,6 @@ use Rattle.arithmetic.specs.Primes.{Prime, isPrime, allBelow}
 use Rattle.arithmetic.proofs.Searches.{T→true, true→T, T-and}
 use Rattle.arithmetic.proofs.PrimeLaws.{true-prime}
 use Rattle.vetting.specs.Plans.{countsFit}
-use Rattle.vetting.proofs.PlanBounds.{Counts, counts-known}
 use Rattle.refusals.proofs.Orders.{rest-decides, first-accepts}
 use Rattle.rounds.specs.declared.Round.{Round}
 use Rattle.rounds.specs.Blocks.{lengthFits}
@@ -32,21 +31,16 @@ state-parts senders false R = refl
 
 pub record Opening (clusters size q L : ℕ) : Type 0 where
   pub fit : countsFit clusters size 0 ≡ true
-  pub counts : Counts clusters size 0
   pub prime : Prime q
-  pub some-length : 1 ≤ L
   pub few-length : L ≤ 64
 
 pub opening-known : (clusters size q L : ℕ) (known : Bool) → accepted ≡ firstOf (openChecks clusters size q L known) → Opening clusters size q L
 opening-known clusters size q L known e =
     let w = none-holds (openChecks clusters size q L known) tt e in
-    let (low, high) = T-and (leb 1 L) (leb L 64) (true→T (lengthFits L) (not-false (lengthFits L) (w .1 .1 .0))) in
     record {
       fit = not-false (countsFit clusters size 0) (w .0);
-      counts = counts-known clusters size 0 (not-false (countsFit clusters size 0) (w .0));
       prime = true-prime q (not-false (isPrime q) (w .1 .0));
-      some-length = leb→le 1 L low;
-      few-length = leb→le L 64 high;
+      few-length = leb→le L 64 (T-and (leb 1 L) (leb L 64) (true→T (lengthFits L) (not-false (lengthFits L) (w .1 .1 .0))) .1);
     }
 
 pub record Good (senders : ℕ) (R : Round) : Type 0 where
