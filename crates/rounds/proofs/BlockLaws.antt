@@ -8,7 +8,7 @@ use native.Mathlib.Omega.{arith}
 use lib.ListN.{length}
 use lib.Dec.{T, eqb, eqb→eq}
 use borrow.Author.Tests.{not-false, eq-eqb}
-use Rattle.refusals.specs.Codes.{accepted, firstOf}
+use Rattle.refusals.specs.Codes.{accepted, firstOf, ifAccepted}
 use Rattle.refusals.proofs.CodeLaws.{none-holds}
 use Rattle.arithmetic.specs.Primes.{isPrime, allBelow}
 use Rattle.arithmetic.specs.Field.{residue, sumOf, differenceOf}
@@ -18,7 +18,8 @@ use Rattle.arithmetic.proofs.Congruence.{to-mod, residue-mod}
 use Rattle.arithmetic.proofs.FieldLaws.{sum-difference}
 use Rattle.matrices.specs.Linear.{at, Vector}
 use Rattle.secrecy.proofs.ListLaws.{at-tab, tab-at, tab-vector}
-use Rattle.rounds.specs.Blocks.{lengthFits, uploadOf, unmaskedOf, blockChecks}
+use Rattle.rounds.specs.Blocks.{lengthFits, uploadOf, unmaskedOf, blockChecks, blockCode}
+use Rattle.rounds.proofs.Answers.{filled}
 
 -- ---- one subtraction
 
@@ -60,6 +61,16 @@ fitting q L a b out e =
       first-below = low;
       second-below = below;
     }
+
+-- so an upload, and an unmasking, may write, and what they write is what the lent block is to hold
+pub writable : (q L : ℕ) (a b out : List ℕ) → accepted ≡ firstOf (blockChecks q L a b out)
+    → (0 < q) × (length a ≡ length out) × (length b ≡ length out) × T (allBelow q a) × T (allBelow q b)
+writable q L a b out e =
+    let f = fitting q L a b out e in
+    (f .positive, f .first ∙ sym (f .room), f .second ∙ sym (f .room), f .first-below, f .second-below)
+
+pub written : (q L : ℕ) (a b out : List ℕ) (block : ℕ → List ℕ) → accepted ≡ firstOf (blockChecks q L a b out) → block (length out) ≡ ifAccepted (blockCode q L a b out) (block L) out
+written q L a b out block e = filled (blockCode q L a b out) L block out (fitting q L a b out e .room) e
 
 -- ---- there and back
 

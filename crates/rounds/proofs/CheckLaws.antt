@@ -1,72 +1,46 @@
 -- The checks of a step, part by part: which part decides, and what is known of a state that passed.
 use Prim.Native.Nat.{ℕ, suc, _-_, _≤_, _<_, _^_}
-use mathlib.Core.Path.{_≡_, sym}
-use mathlib.Core.Bool.{Bool, true, false, cond, not, _&&_, _||_}
-use mathlib.Core.List.{List}
-use native.Mathlib.Omega.{arith}
+use mathlib.Core.Path.{_≡_, refl, sym, _∙_}
+use mathlib.Core.Bool.{Bool, true, false, _||_}
+use mathlib.Core.List.{List, _++_}
 use lib.Dec.{leb, ltb, eqb, leb→le}
 use lib.ListN.{length, take, drop}
 use borrow.Author.Tests.{not-false, ltb-true, eqb-true}
-use Rattle.refusals.specs.declared.Code.{Code}
-use Rattle.refusals.specs.declared.Refusal.{Refusal}
-use Rattle.refusals.specs.Codes.{code, accepted, codeOf, firstOf}
-use Rattle.refusals.proofs.CodeLaws.{none-holds, refused-keeps}
+use Rattle.refusals.specs.Codes.{accepted, firstOf}
+use Rattle.refusals.proofs.CodeLaws.{none-holds}
 use Rattle.arithmetic.specs.Search.{allTo}
 use Rattle.arithmetic.specs.Primes.{Prime, isPrime, allBelow}
 use Rattle.arithmetic.proofs.Searches.{T→true, true→T, T-and}
 use Rattle.arithmetic.proofs.PrimeLaws.{true-prime}
 use Rattle.vetting.specs.Plans.{countsFit}
-use Rattle.vetting.proofs.PlanBounds.{Counts, counts-known}
-use Rattle.refusals.proofs.Orders.{first-accepts}
+use Rattle.refusals.proofs.Orders.{rest-decides, first-accepts}
 use Rattle.rounds.specs.declared.Round.{Round}
 use Rattle.rounds.specs.Blocks.{lengthFits}
 use Rattle.rounds.specs.Ledger.{Frame, named}
 use Rattle.rounds.specs.Rounds.{hasBit, oneOf, openChecks, sumsFit, hasReported, stateChecks, frameChecks, giveChecks}
 use Rattle.rounds.specs.Machine.{contentChecks}
 
--- ---- the tests of an opening, and then those of what the round holds
+-- ---- the tests of an opening, and then those of what the round holds, are those of a state: 8 is asked in both
 
-module _ (senders : ℕ) (known : Bool) (R : Round) where
-  no-refusal : (r : Refusal) → codeOf r ≡ accepted → ⊥
-  no-refusal r e = let z : _≡_ {A = ℕ} 1 0 = refused-keeps accepted 1 0 r e in omega arith
-
-  refused-first : (r : Refusal) (a b c k l : Bool) (rest : Code) → codeOf r ≡ cond a (code 1) (cond b (code 2) (cond c (code 9) (cond (not k) (code 8) accepted)))
-      → codeOf r ≡ cond a (code 1) (cond b (code 2) (cond c (code 9) (cond (not (k && l)) (code 8) rest)))
-  refused-first r true b c k l rest e = e
-  refused-first r false true c k l rest e = e
-  refused-first r false false true k l rest e = e
-  refused-first r false false false false l rest e = e
-  refused-first r false false false true l rest e = absurd (no-refusal r e)
-
-  pub opening-refuses : (r : Refusal) → codeOf r ≡ firstOf (openChecks (R .clusters) (R .size) (R .q) (R .length) known) → codeOf r ≡ firstOf (stateChecks senders known R)
-  opening-refuses r =
-      refused-first r (not (countsFit (R .clusters) (R .size) 0)) (not (isPrime (R .q))) (not (lengthFits (R .length))) known (ltb (R .reported) (2 ^ senders))
-      (cond (not (sumsFit (R .q) (R .length) (R .sums))) (code 3) accepted)
-
-  pub opening-passes : accepted ≡ firstOf (openChecks (R .clusters) (R .size) (R .q) (R .length) known) → firstOf (contentChecks senders R) ≡ firstOf (stateChecks senders known R)
-  opening-passes e =
-      let w = none-holds (openChecks (R .clusters) (R .size) (R .q) (R .length) known) tt e in
-      sym (simp (w .0, w .1 .0, w .1 .1 .0, not-false known (w .1 .1 .1 .0)))
+pub state-parts : (senders : ℕ) (known : Bool) (R : Round)
+    → firstOf (openChecks (R .clusters) (R .size) (R .q) (R .length) known ++ contentChecks senders R) ≡ firstOf (stateChecks senders known R)
+state-parts senders true R = refl
+state-parts senders false R = refl
 
 -- ---- what is known of an opening, and of a state, that passed
 
 pub record Opening (clusters size q L : ℕ) : Type 0 where
   pub fit : countsFit clusters size 0 ≡ true
-  pub counts : Counts clusters size 0
   pub prime : Prime q
-  pub some-length : 1 ≤ L
   pub few-length : L ≤ 64
 
 pub opening-known : (clusters size q L : ℕ) (known : Bool) → accepted ≡ firstOf (openChecks clusters size q L known) → Opening clusters size q L
 opening-known clusters size q L known e =
     let w = none-holds (openChecks clusters size q L known) tt e in
-    let (low, high) = T-and (leb 1 L) (leb L 64) (true→T (lengthFits L) (not-false (lengthFits L) (w .1 .1 .0))) in
     record {
       fit = not-false (countsFit clusters size 0) (w .0);
-      counts = counts-known clusters size 0 (not-false (countsFit clusters size 0) (w .0));
       prime = true-prime q (not-false (isPrime q) (w .1 .0));
-      some-length = leb→le 1 L low;
-      few-length = leb→le L 64 high;
+      few-length = leb→le L 64 (T-and (leb 1 L) (leb L 64) (true→T (lengthFits L) (not-false (lengthFits L) (w .1 .1 .0))) .1);
     }
 
 pub record Good (senders : ℕ) (R : Round) : Type 0 where
@@ -78,21 +52,16 @@ pub record Good (senders : ℕ) (R : Round) : Type 0 where
 pub good-state : (senders : ℕ) (known : Bool) (R : Round) → accepted ≡ firstOf (stateChecks senders known R) → Good senders R
 good-state senders known R e =
     let L : ℕ = R .length in
-    let w = none-holds (stateChecks senders known R) tt e in
-    let (low, high) = T-and (leb 1 L) (leb L 64) (true→T (lengthFits L) (not-false (lengthFits L) (w .1 .1 .0))) in
-    let heard = T-and known (ltb (R .reported) (2 ^ senders)) (true→T (known && ltb (R .reported) (2 ^ senders)) (not-false (known && ltb (R .reported) (2 ^ senders)) (w .1 .1 .1 .0))) in
-    let sums = T-and (allBelow (R .q) (take L (R .sums))) (allBelow 1 (drop L (R .sums))) (true→T (sumsFit (R .q) L (R .sums)) (not-false (sumsFit (R .q) L (R .sums)) (w .1 .1 .1 .1 .0))) in
+    let opening = openChecks (R .clusters) (R .size) (R .q) L known in
+    let both : accepted ≡ firstOf (opening ++ contentChecks senders R) = e ∙ sym (state-parts senders known R) in
+    let first : accepted ≡ firstOf opening = first-accepts opening (contentChecks senders R) tt both in
+    let w = none-holds (contentChecks senders R) tt (both ∙ sym (rest-decides opening (contentChecks senders R) tt first)) in
+    let (low, high) = T-and (allBelow (R .q) (take L (R .sums))) (allBelow 1 (drop L (R .sums))) (true→T (sumsFit (R .q) L (R .sums)) (not-false (sumsFit (R .q) L (R .sums)) (w .1 .0))) in
     record {
-      opening = record {
-        fit = not-false (countsFit (R .clusters) (R .size) 0) (w .0);
-        counts = counts-known (R .clusters) (R .size) 0 (not-false (countsFit (R .clusters) (R .size) 0) (w .0));
-        prime = true-prime (R .q) (not-false (isPrime (R .q)) (w .1 .0));
-        some-length = leb→le 1 L low;
-        few-length = leb→le L 64 high;
-      };
-      reported = ltb-true (R .reported) (2 ^ senders) (T→true (ltb (R .reported) (2 ^ senders)) (heard .1));
-      low = T→true (allBelow (R .q) (take L (R .sums))) (sums .0);
-      high = T→true (allBelow 1 (drop L (R .sums))) (sums .1);
+      opening = opening-known (R .clusters) (R .size) (R .q) L known first;
+      reported = ltb-true (R .reported) (2 ^ senders) (not-false (ltb (R .reported) (2 ^ senders)) (w .0));
+      low = T→true (allBelow (R .q) (take L (R .sums))) low;
+      high = T→true (allBelow 1 (drop L (R .sums))) high;
     }
 
 -- ---- what is known of a frame that passed

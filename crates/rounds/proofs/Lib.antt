@@ -1,5 +1,6 @@
 pub mod BlockLaws
 pub mod StreamLaws
+mod Answers
 mod CheckLaws
 mod ReportedLaws
 mod StepLaws

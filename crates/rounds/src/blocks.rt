@@ -118,13 +118,11 @@ pub fn upload(
     ensures code { λ r. ⌜ verdictCode r ≡ blockCode q length (now (readings .entry)) (now (key .entry)) (now (out .entry)) ⌝ }
     ensures out { λ _. ⌜ now (out .exit) ≡ uploadAfter q length (now (readings .entry)) (now (key .entry)) (now (out .entry)) ⌝ }
 {
-    match check_blocks(q, length, readings, key, out) {
-        Verdict::Refused(refusal) => Verdict::Refused(refusal),
-        Verdict::Accepted => {
-            write_upload(q, readings, key, out);
-            Verdict::Accepted
-        }
+    let verdict = check_blocks(q, length, readings, key, out);
+    if verdict.is_accepted() {
+        write_upload(q, readings, key, out);
     }
+    verdict
 }
 
 // The readings of an upload, for whoever has its key.
@@ -138,11 +136,9 @@ pub fn unmask(
     ensures code { λ r. ⌜ verdictCode r ≡ blockCode q length (now (upload .entry)) (now (key .entry)) (now (out .entry)) ⌝ }
     ensures out { λ _. ⌜ now (out .exit) ≡ unmaskAfter q length (now (upload .entry)) (now (key .entry)) (now (out .entry)) ⌝ }
 {
-    match check_blocks(q, length, upload, key, out) {
-        Verdict::Refused(refusal) => Verdict::Refused(refusal),
-        Verdict::Accepted => {
-            write_unmasked(q, upload, key, out);
-            Verdict::Accepted
-        }
+    let verdict = check_blocks(q, length, upload, key, out);
+    if verdict.is_accepted() {
+        write_unmasked(q, upload, key, out);
     }
+    verdict
 }

@@ -85,15 +85,16 @@ impl Round {
         ensures code { λ r. ⌜ verdictCode (r .answer) ≡ openCode clusters size q length known ⌝ }
         ensures round { λ r. ⌜ r .round ≡ openRound clusters size q length known number ⌝ }
     {
-        match check_opening(clusters, size, q, length, known) {
-            Verdict::Refused(refusal) => Step {
-                answer: Verdict::Refused(refusal),
+        let answer = check_opening(clusters, size, q, length, known);
+        if !answer.is_accepted() {
+            return Step {
+                answer,
                 round: Round::empty(0, 0, 0, 0, 0),
-            },
-            Verdict::Accepted => Step {
-                answer: Verdict::Accepted,
-                round: Round::empty(clusters, size, q, length, number),
-            },
+            };
+        }
+        Step {
+            answer,
+            round: Round::empty(clusters, size, q, length, number),
         }
     }
 
@@ -129,10 +130,11 @@ impl Round {
         requires { ⌜ (countsFit (self .clusters) (self .size) 0 ≡ true → senders ≤ 8) ⌝ }
         ensures { λ r. ⌜ verdictCode r ≡ firstOf (stateChecks senders known self) ⌝ }
     {
-        match check_opening(self.clusters, self.size, self.q, self.length, known) {
-            Verdict::Refused(refusal) => Verdict::Refused(refusal),
-            Verdict::Accepted => self.check_contents(senders),
+        let verdict = check_opening(self.clusters, self.size, self.q, self.length, known);
+        if !verdict.is_accepted() {
+            return verdict;
         }
+        self.check_contents(senders)
     }
 
     // The frame itself: 8, 4, 3, 14, 11.
@@ -169,10 +171,11 @@ impl Round {
         requires { ⌜ (countsFit (self .clusters) (self .size) 0 ≡ true → senders ≤ 8) ⌝ }
         ensures { λ r. ⌜ verdictCode r ≡ stepCode senders known self (frame sender number (now (block .entry))) ⌝ }
     {
-        match self.check_state(senders, known) {
-            Verdict::Refused(refusal) => Verdict::Refused(refusal),
-            Verdict::Accepted => self.check_own(senders, sender, number, block),
+        let verdict = self.check_state(senders, known);
+        if !verdict.is_accepted() {
+            return verdict;
         }
+        self.check_own(senders, sender, number, block)
     }
 
     // Sums and block are below q, position by position.
@@ -211,15 +214,16 @@ impl Round {
         ensures code { λ r. ⌜ verdictCode (r .answer) ≡ stepCode senders known self (frame sender number (now (block .entry))) ⌝ }
         ensures round { λ r. ⌜ r .round ≡ stepped senders known self (frame sender number (now (block .entry))) ⌝ }
     {
-        match self.check_frame(senders, known, sender, number, block) {
-            Verdict::Refused(refusal) => Step {
-                answer: Verdict::Refused(refusal),
+        let answer = self.check_frame(senders, known, sender, number, block);
+        if !answer.is_accepted() {
+            return Step {
+                answer,
                 round: self,
-            },
-            Verdict::Accepted => Step {
-                answer: Verdict::Accepted,
-                round: self.counted(sender, block),
-            },
+            };
+        }
+        Step {
+            answer,
+            round: self.counted(sender, block),
         }
     }
 
@@ -249,10 +253,11 @@ impl Round {
         requires { ⌜ (countsFit (self .clusters) (self .size) 0 ≡ true → senders ≤ 8) ⌝ }
         ensures { λ r. ⌜ verdictCode r ≡ giveCode senders known self (now (out .entry)) ⌝ }
     {
-        match self.check_state(senders, known) {
-            Verdict::Refused(refusal) => Verdict::Refused(refusal),
-            Verdict::Accepted => self.check_lent(senders, out.len()),
+        let verdict = self.check_state(senders, known);
+        if !verdict.is_accepted() {
+            return verdict;
         }
+        self.check_lent(senders, out.len())
     }
 
     fn write_sums(self, out: &mut [Symbol])
@@ -272,12 +277,10 @@ impl Round {
         ensures code { λ r. ⌜ verdictCode r ≡ giveCode senders known self (now (out .entry)) ⌝ }
         ensures out { λ _. ⌜ now (out .exit) ≡ sumsAfter senders known self (now (out .entry)) ⌝ }
     {
-        match self.check_give(senders, known, out) {
-            Verdict::Refused(refusal) => Verdict::Refused(refusal),
-            Verdict::Accepted => {
-                self.write_sums(out);
-                Verdict::Accepted
-            }
+        let verdict = self.check_give(senders, known, out);
+        if verdict.is_accepted() {
+            self.write_sums(out);
         }
+        verdict
     }
 }

@@ -8,7 +8,6 @@ use crate::RelayStep;
 use crate::Round;
 use crate::machine::one_of;
 use arithmetic::Symbol;
-use refusals::Verdict;
 
 impl RelayRound {
     // A refused opening hands back a round of zeros, its cluster too.
@@ -26,15 +25,10 @@ impl RelayRound {
         let step = Round::open(clusters, size, q, length, number, one_of(clusters, cluster));
         let answer = step.answer;
         let round = step.round;
-        match answer {
-            Verdict::Refused(refusal) => RelayStep {
-                answer: Verdict::Refused(refusal),
-                round: RelayRound { cluster: 0, round },
-            },
-            Verdict::Accepted => RelayStep {
-                answer: Verdict::Accepted,
-                round: RelayRound { cluster, round },
-            },
+        let cluster = if answer.is_accepted() { cluster } else { 0 };
+        RelayStep {
+            answer,
+            round: RelayRound { cluster, round },
         }
     }
 

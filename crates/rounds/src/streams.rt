@@ -48,18 +48,14 @@ pub fn draw_at(stream: &[Symbol], at: usize, length: usize, out: &mut [Symbol]) 
         × (r .at ≡ positionAfter (now (stream .entry)) at length (now (out .entry)))
         × (now (out .exit) ≡ bufferAfter (now (stream .entry)) at length (now (out .entry))) ⌝ }
 {
-    match check_draw(stream, at, length, out) {
-        Verdict::Refused(refusal) => Drawn {
-            answer: Verdict::Refused(refusal),
-            at,
-        },
-        Verdict::Accepted => {
-            copy_from(stream, at, out);
-            Drawn {
-                answer: Verdict::Accepted,
-                at: at + length,
-            }
-        }
+    let answer = check_draw(stream, at, length, out);
+    if !answer.is_accepted() {
+        return Drawn { answer, at };
+    }
+    copy_from(stream, at, out);
+    Drawn {
+        answer,
+        at: at + length,
     }
 }
 

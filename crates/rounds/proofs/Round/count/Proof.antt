@@ -1,11 +1,13 @@
-use mathlib.Core.Path.{_≡_, sym, ap, _∙_}
-use mathlib.Core.List.{[], _∷_}
 use borrow.Author.Needs.{needs}
+use borrow.Author.Tests.{not-true, not-false}
+use mathlib.Core.Path.{_≡_, sym, _∙_}
+use mathlib.Core.List.{[], _∷_}
 use Rattle.refusals.specs.declared.Code.{Code}
-use Rattle.refusals.specs.Codes.{accepted, codeOf, verdictCode}
-use Rattle.refusals.proofs.CodeLaws.{refused-keeps, accepted-takes}
+use Rattle.refusals.specs.Codes.{accepted}
+use Rattle.refusals.proofs.CodeLaws.{accepted-takes, old-kept}
 use Rattle.rounds.specs.Ledger.{Frame, frame}
 use Rattle.rounds.specs.Rounds.{stepCode, after}
+use Rattle.rounds.proofs.Answers.{passes, refuses}
 use Rattle.rounds.proofs.CheckLaws.{Passed, frame-known}
 use Rattle.rounds.proofs.StepLaws.{can-count, counted-is}
 use Rattle.rounds.proofs.Round.count.Statement.{statement}
@@ -14,27 +16,30 @@ use Rattle.rounds.proofs.Round.count.Tie as tie
 check-frame-requires : tie.Need-check-frame-requires
 check-frame-requires c κs = c .before .pre
 
-enum-known-refusal : tie.Need-enum-known-refusal
-enum-known-refusal c = search needs
-
-enum-told : tie.Need-enum-told
-enum-told c = search needs
+is-accepted-requires : tie.Need-is-accepted-requires
+is-accepted-requires c κs = search needs
 
 -- the frame, and the code of the call
 abbrev theFrame : tie.Start → Frame
 theFrame s = frame (s .args .sender) (s .args .number) (s .args .block .now)
 
-abbrev theCode : tie.Start → Code
-theCode s = stepCode (s .args .senders) (s .args .known) (s .args .self) (theFrame s)
+abbrev code : tie.Start → Code
+code s = stepCode (s .args .senders) (s .args .known) (s .args .self) (theFrame s)
 
-told : (c : tie.After-enum-told) → accepted ≡ theCode (c .before .before .before .before)
-told c = sym (ap verdictCode (c .enum-told .given .1)) ∙ c .before .before .check-frame .ensures
+told : (c : tie.Else1) → accepted ≡ code (c .before .before .before .before)
+told c = passes (c .before .before .check-frame .result) (c .before .before .check-frame .ensures) (c .before .is-accepted .ensures) (not-false _ (c .if1 .left))
 
 -- what the checks found
-passed : (c : tie.After-enum-told) → (let s = c .before .before .before .before in Passed (s .args .senders) (s .args .self) [] (theFrame s))
+passed : (c : tie.Else1) → (let s = c .before .before .before .before in Passed (s .args .senders) (s .args .self) [] (theFrame s))
 passed c =
     let s = c .before .before .before .before in
     frame-known (s .args .senders) (s .args .known) (s .args .self) [] (theFrame s) (told c)
+
+returns : tie.Need-returns
+returns c =
+    let checked = c .before .before .check-frame in
+    let s = c .before .before .before .before in
+    (checked .ensures, sym (old-kept (code s) _ (s .args .self) (refuses (checked .result) (checked .ensures) (c .before .is-accepted .ensures) (not-true _ (c .if1 .taken)))))
 
 counted-requires : tie.Need-counted-requires
 counted-requires c κs =
@@ -42,22 +47,18 @@ counted-requires c κs =
     let p = passed c in
     can-count (s .args .senders) (s .args .known) (s .args .self) (theFrame s) p (s .pre (p .good .opening .fit))
 
-returns : tie.Need-returns
-returns c =
-    let s = c .before .before .before .before .before in
-    let a = s .args in
-    let r = c .before .refusal .given .0 .0 in
-    let e : codeOf r ≡ theCode s = sym (ap verdictCode (c .before .refusal .given .1)) ∙ c .before .before .before .check-frame .ensures in
-    (e, sym (refused-keeps (theCode s) (after (a .senders) (a .known) (a .self) (theFrame s ∷ [])) (a .self) r e))
-
 returns-2 : tie.Need-returns-2
 returns-2 c =
-    let s = c .before .before .before .before .before in
-    let a = s .args in
-    let e : accepted ≡ theCode s = told (c .before) in
-    (e, c .counted .ensures ∙ counted-is (a .senders) (a .known) (a .self) (theFrame s) (passed (c .before)) ∙ sym (accepted-takes (theCode s) (after (a .senders) (a .known) (a .self) (theFrame s ∷ [])) (a .self) e))
+    let t : tie.Else1 = c .before in
+    let s = t .before .before .before .before in
+    let a = s .args in (
+      t .before .before .check-frame .ensures,
+      c .counted .ensures
+          ∙ counted-is (a .senders) (a .known) (a .self) (theFrame s) (passed t)
+          ∙ sym (accepted-takes (code s) (after (a .senders) (a .known) (a .self) (theFrame s ∷ [])) (a .self) (told t)),
+    )
 
 pub count-spec : {M : Type 1} → statement M
 count-spec =
     tie.close
-    (tie.spec check-frame-requires enum-known-refusal enum-told counted-requires returns returns-2)
+    (tie.spec check-frame-requires is-accepted-requires returns counted-requires returns-2)

@@ -1,68 +1,59 @@
 use borrow.Author.Needs.{needs}
-use mathlib.Core.Path.{_≡_, sym, ap, _∙_}
+use mathlib.Core.Path.{_≡_, sym, _∙_}
 use Rattle.refusals.specs.declared.Code.{Code}
-use Rattle.refusals.specs.Codes.{accepted, codeOf, verdictCode, firstOf}
-use Rattle.refusals.proofs.CodeLaws.{refused-keeps, accepted-takes}
-use Prim.Native.Nat.{ℕ}
-use Rattle.rounds.specs.Blocks.{uploadOf, blockChecks}
-use Rattle.rounds.proofs.BlockLaws.{fitting}
+use Rattle.refusals.specs.Codes.{accepted}
+use Rattle.refusals.proofs.CodeLaws.{old-kept}
+use Rattle.rounds.specs.Blocks.{blockCode, uploadOf}
+use Rattle.rounds.proofs.Answers.{passes, refuses}
+use Rattle.rounds.proofs.BlockLaws.{writable, written}
 use Rattle.rounds.proofs.blocks.upload.Statement.{statement}
 use Rattle.rounds.proofs.blocks.upload.Tie as tie
 
 check-blocks-requires : tie.Need-check-blocks-requires
 check-blocks-requires c κs = search needs
 
-enum-known-refusal : tie.Need-enum-known-refusal
-enum-known-refusal c = search needs
-
-enum-told : tie.Need-enum-told
-enum-told c = search needs
+is-accepted-requires : tie.Need-is-accepted-requires
+is-accepted-requires c κs = search needs
 
 -- the code of the call
 abbrev code : tie.Start → Code
-code s = firstOf (blockChecks (s .args .q) (s .args .length) (s .args .readings .now) (s .args .key .now) (s .args .out .now))
+code s = blockCode (s .args .q) (s .args .length) (s .args .readings .now) (s .args .key .now) (s .args .out .now)
 
--- the checks accepted
-told : (c : tie.After-enum-told) → accepted ≡ code (c .before .before .before .before .before .before .before)
-told c = sym (ap verdictCode (c .enum-told .given .1)) ∙ c .before .before .check-blocks .ensures
+told : (c : tie.Then1) → accepted ≡ code (c .before .before .before .before .before .before .before)
+told c = passes (c .before .before .check-blocks .result) (c .before .before .check-blocks .ensures) (c .before .is-accepted .ensures) (c .if1 .taken)
 
 write-upload-requires : tie.Need-write-upload-requires
 write-upload-requires c κs =
     let a = c .before .before .before .before .before .before .before .before .args in
-    let f = fitting (a .q) (a .length) (a .readings .now) (a .key .now) (a .out .now) (told (c .before)) in
-    (f .positive, f .first ∙ sym (f .room), f .second ∙ sym (f .room), f .first-below, f .second-below)
+    writable (a .q) (a .length) (a .readings .now) (a .key .now) (a .out .now) (told (c .before))
 
 same-length : tie.Need-same-length
 same-length c = search needs
 
 returns : tie.Need-returns
 returns c =
-    let s = c .before .before .before .before .before .before .before .before in
-    let e : codeOf (c .before .refusal .given .0 .0) ≡ code s = sym (ap verdictCode (c .before .refusal .given .1)) ∙ c .before .before .before .check-blocks .ensures in
-    (e, sym (refused-keeps (code s) _ (s .args .out .now) (c .before .refusal .given .0 .0) e))
+    let t : tie.Then1 = c .before .before .before .before in
+    let a = t .before .before .before .before .before .before .before .args in (
+      t .before .before .check-blocks .ensures,
+      c .before .before .write-upload .ensures
+          ∙ written (a .q) (a .length) (a .readings .now) (a .key .now) (a .out .now) (λ n. uploadOf (a .q) n (a .readings .now) (a .key .now)) (told t),
+    )
 
 same-length-2 : tie.Need-same-length-2
 same-length-2 c = search needs
 
 returns-2 : tie.Need-returns-2
 returns-2 c =
-    let s = c .before .before .before .before .before .before .before .before .before .before .before in
-    let a = s .args in
-    let e : accepted ≡ code s = told (c .before .before .before .before) in
-    let f = fitting (a .q) (a .length) (a .readings .now) (a .key .now) (a .out .now) e in (
-      e,
-      c .before .before .write-upload .ensures
-          ∙ ap (λ (n : ℕ). uploadOf (a .q) n (a .readings .now) (a .key .now)) (f .room)
-          ∙ sym (accepted-takes (code s) _ (a .out .now) e),
-    )
+    let checked = c .before .before .check-blocks in
+    let s = c .before .before .before .before .before .before .before in
+    (checked .ensures, sym (old-kept (code s) _ (s .args .out .now) (refuses (checked .result) (checked .ensures) (c .before .is-accepted .ensures) (c .if1 .left))))
 
 pub upload-spec : {M : Type 1} → statement M
 upload-spec =
     tie.close
     (tie.spec
     check-blocks-requires
-    enum-known-refusal
-    enum-told
+    is-accepted-requires
     write-upload-requires
     same-length
     returns

@@ -1,11 +1,13 @@
 use borrow.Author.Needs.{needs}
-use mathlib.Core.Path.{_≡_, sym, ap, _∙_}
+use borrow.Author.Tests.{not-true, not-false}
+use mathlib.Core.Path.{_≡_, sym, _∙_}
 use Prim.Native.Nat.{_+_}
 use native.Mathlib.Omega.{arith}
 use Rattle.refusals.specs.declared.Code.{Code}
-use Rattle.refusals.specs.Codes.{accepted, codeOf, verdictCode}
-use Rattle.refusals.proofs.CodeLaws.{refused-keeps, accepted-takes}
+use Rattle.refusals.specs.Codes.{accepted}
+use Rattle.refusals.proofs.CodeLaws.{accepted-takes, old-kept}
 use Rattle.rounds.specs.Streams.{drawn, drawCode}
+use Rattle.rounds.proofs.Answers.{passes, refuses, filled}
 use Rattle.rounds.proofs.StreamLaws.{Drawable, drawable}
 use Rattle.rounds.proofs.streams.draw_at.Statement.{statement}
 use Rattle.rounds.proofs.streams.draw_at.Tie as tie
@@ -13,21 +15,28 @@ use Rattle.rounds.proofs.streams.draw_at.Tie as tie
 check-draw-requires : tie.Need-check-draw-requires
 check-draw-requires c κs = search needs
 
-enum-known-refusal : tie.Need-enum-known-refusal
-enum-known-refusal c = search needs
-
-enum-told : tie.Need-enum-told
-enum-told c = search needs
+is-accepted-requires : tie.Need-is-accepted-requires
+is-accepted-requires c κs = search needs
 
 -- the code of the call
 abbrev code : tie.Start → Code
 code s = drawCode (s .args .stream .now) (s .args .at) (s .args .length) (s .args .out .now)
 
--- the checks accepted
-told : (c : tie.After-enum-told) → accepted ≡ code (c .before .before .before .before .before .before)
-told c = sym (ap verdictCode (c .enum-told .given .1)) ∙ c .before .before .check-draw .ensures
+same-length : tie.Need-same-length
+same-length c = search needs
 
-known : (c : tie.After-enum-told) → (let a = c .before .before .before .before .before .before .args in Drawable (a .stream .now) (a .at) (a .length) (a .out .now))
+returns : tie.Need-returns
+returns c =
+    let checked = c .before .before .check-draw in
+    let s = c .before .before .before .before .before .before in
+    let e = refuses (checked .result) (checked .ensures) (c .before .is-accepted .ensures) (not-true _ (c .if1 .taken)) in
+    (checked .ensures, sym (old-kept (code s) _ (s .args .at) e), sym (old-kept (code s) _ (s .args .out .now) e))
+
+-- the checks accepted
+told : (c : tie.Else1) → accepted ≡ code (c .before .before .before .before .before .before)
+told c = passes (c .before .before .check-draw .result) (c .before .before .check-draw .ensures) (c .before .is-accepted .ensures) (not-false _ (c .if1 .left))
+
+known : (c : tie.Else1) → (let a = c .before .before .before .before .before .before .args in Drawable (a .stream .now) (a .at) (a .length) (a .out .now))
 known c =
     let a = c .before .before .before .before .before .before .args in
     drawable (a .stream .now) (a .at) (a .length) (a .out .now) (told c)
@@ -35,32 +44,20 @@ known c =
 copy-from-requires : tie.Need-copy-from-requires
 copy-from-requires c κs = omega (arith, known (c .before) .room, known (c .before) .enough)
 
-add-t15 : tie.Need-add-t15
-add-t15 c = omega (arith, known (c .before .before .before .before) .enough)
-
-same-length : tie.Need-same-length
-same-length c = search needs
-
-returns : tie.Need-returns
-returns c =
-    let s = c .before .before .before .before .before .before .before in
-    let e : codeOf (c .before .refusal .given .0 .0) ≡ code s = sym (ap verdictCode (c .before .refusal .given .1)) ∙ c .before .before .before .check-draw .ensures in
-    (e, sym (refused-keeps (code s) _ (s .args .at) (c .before .refusal .given .0 .0) e), sym (refused-keeps (code s) _ (s .args .out .now) (c .before .refusal .given .0 .0) e))
+add-t13 : tie.Need-add-t13
+add-t13 c = omega (arith, known (c .before .before .before .before) .enough)
 
 same-length-2 : tie.Need-same-length-2
 same-length-2 c = search needs
 
 returns-2 : tie.Need-returns-2
 returns-2 c =
-    let s = c .before .before .before .before .before .before .before .before .before .before in
-    let a = s .args in
-    let t = c .before .before .before .before in
-    let e : accepted ≡ code s = told t in (
-      e,
-      sym (accepted-takes (code s) (a .at + a .length) (a .at) e),
-      c .before .before .copy-from .ensures
-          ∙ ap (drawn (a .stream .now) (a .at)) (known t .room)
-          ∙ sym (accepted-takes (code s) _ (a .out .now) e),
+    let t : tie.Else1 = c .before .before .before .before in
+    let s = t .before .before .before .before .before .before in
+    let a = s .args in (
+      t .before .before .check-draw .ensures,
+      sym (accepted-takes (code s) (a .at + a .length) (a .at) (told t)),
+      c .before .before .copy-from .ensures ∙ filled (code s) (a .length) (drawn (a .stream .now) (a .at)) (a .out .now) (known t .room) (told t),
     )
 
 pub draw-at-spec : {M : Type 1} → statement M
@@ -68,11 +65,10 @@ draw-at-spec =
     tie.close
     (tie.spec
     check-draw-requires
-    enum-known-refusal
-    enum-told
-    copy-from-requires
-    add-t15
+    is-accepted-requires
     same-length
     returns
+    copy-from-requires
+    add-t13
     same-length-2
     returns-2)
