@@ -187,13 +187,11 @@ pub fn read_record(bytes: &[u8], table: &mut [Symbol]) -> Planned
     ensures plan { λ r. ⌜ plannedPlan r ≡ planAfter (now (bytes .entry)) (now (table .entry)) ⌝ }
     ensures table { λ _. ⌜ now (table .exit) ≡ tableAfter (now (bytes .entry)) (now (table .entry)) ⌝ }
 {
-    match check_record(bytes, table) {
-        Planned::Refused(refusal) => Planned::Refused(refusal),
-        Planned::Made(plan) => {
-            fill(bytes, start_in(bytes) + HEAD, symbols(plan), table);
-            Planned::Made(plan)
-        }
+    let planned = check_record(bytes, table);
+    if let Planned::Made(plan) = planned {
+        fill(bytes, start_in(bytes) + HEAD, symbols(plan), table);
     }
+    planned
 }
 
 // The bytes of a word.
@@ -282,11 +280,9 @@ pub fn write_record(plan: Plan, table: &[Symbol], out: &mut [u8]) -> Verdict
     ensures code { λ r. ⌜ verdictCode r ≡ writeVerdict plan (now (table .entry)) (now (out .entry)) ⌝ }
     ensures out { λ _. ⌜ now (out .exit) ≡ bytesAfter plan (now (table .entry)) (now (out .entry)) ⌝ }
 {
-    match check_writing(plan, table, out) {
-        Verdict::Refused(refusal) => Verdict::Refused(refusal),
-        Verdict::Accepted => {
-            write_parts(plan, table, out);
-            Verdict::Accepted
-        }
+    let verdict = check_writing(plan, table, out);
+    if verdict.is_accepted() {
+        write_parts(plan, table, out);
     }
+    verdict
 }
