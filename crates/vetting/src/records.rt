@@ -11,8 +11,8 @@ ghost use Rattle.vetting.specs.Plans.{usersOf, inBounds, plannedCode, pl
 ghost use Rattle.vetting.specs.Records.{word, bytesOf, wordsOf, bytesOfAll, recordSize, recordOf, distance, start, badTrailer, planRead, readVerdict, planAfter, tableAfter, padded, writeVerdict, bytesAfter};
 use crate::Plan;
 use crate::Planned;
+use crate::verdict::check_plan;
 use arithmetic::Symbol;
-use arithmetic::all_below;
 use arithmetic::is_prime;
 use refusals::Refusal;
 use refusals::Verdict;
@@ -254,25 +254,18 @@ fn write_parts(plan: Plan, table: &[Symbol], out: &mut [u8])
     write_trailer(size, &mut out[end..]);
 }
 
+// The vet's checks of a plan and a table, then that of the buffer.
 fn check_writing(plan: Plan, table: &[Symbol], out: &[u8]) -> Verdict
     ensures { λ r. ⌜ verdictCode r ≡ writeVerdict plan (now (table .entry)) (now (out .entry)) ⌝ }
 {
-    if !plan.in_bounds() {
-        return Verdict::Refused(Refusal::OutOfBounds);
-    }
-    if table.len() != symbols(plan) {
-        return Verdict::Refused(Refusal::WrongLength);
-    }
-    if !is_prime(plan.q) {
-        return Verdict::Refused(Refusal::NotPrime);
-    }
-    if !all_below(plan.q, table) {
-        return Verdict::Refused(Refusal::NotASymbol);
+    let verdict = check_plan(plan, table);
+    if !verdict.is_accepted() {
+        return verdict;
     }
     if out.len() != record_size(plan) {
         return Verdict::Refused(Refusal::WrongLength);
     }
-    Verdict::Accepted
+    verdict
 }
 
 // Writes the record of a plan and its key table.
