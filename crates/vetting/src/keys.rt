@@ -78,20 +78,14 @@ fn check_keys(
 ) -> Verdict
     ensures { λ r. ⌜ verdictCode r ≡ keyCode plan (now (table .entry)) length (now (source .entry)) (now (keys .entry)) ⌝ }
 {
-    match vet(plan, table) {
-        Verdict::Refused(refusal) => return Verdict::Refused(refusal),
-        Verdict::Accepted => {}
+    let vetted = vet(plan, table);
+    if !vetted.is_accepted() {
+        return vetted;
     }
-    if length < 1 {
+    if length < 1 || length > Plan::MAX_LENGTH {
         return Verdict::Refused(Refusal::BadBlockLength);
     }
-    if length > Plan::MAX_LENGTH {
-        return Verdict::Refused(Refusal::BadBlockLength);
-    }
-    if source.len() != length * plan.rate {
-        return Verdict::Refused(Refusal::WrongLength);
-    }
-    if keys.len() != plan.clusters * plan.size * length {
+    if source.len() != length * plan.rate || keys.len() != plan.clusters * plan.size * length {
         return Verdict::Refused(Refusal::WrongLength);
     }
     if !arithmetic::all_below(plan.q, source) {
@@ -111,11 +105,9 @@ pub fn derive_keys(
     ensures code { λ r. ⌜ verdictCode r ≡ keyCode plan (now (table .entry)) length (now (source .entry)) (now (keys .entry)) ⌝ }
     ensures keys { λ _. ⌜ now (keys .exit) ≡ keysAfter plan (now (table .entry)) length (now (source .entry)) (now (keys .entry)) ⌝ }
 {
-    match check_keys(plan, table, length, source, keys) {
-        Verdict::Refused(refusal) => Verdict::Refused(refusal),
-        Verdict::Accepted => {
-            write_keys(plan, table, length, source, keys);
-            Verdict::Accepted
-        }
+    let verdict = check_keys(plan, table, length, source, keys);
+    if verdict.is_accepted() {
+        write_keys(plan, table, length, source, keys);
     }
+    verdict
 }

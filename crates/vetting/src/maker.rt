@@ -2,7 +2,7 @@
 ghost use mathlib.Core.Path.{_≡_};
 ghost use mathlib.Core.Bool.{true, cond};
 ghost use mathlib.Core.List.{_++_, map};
-ghost use Prim.Native.Nat.{_+_, _-_, _*_, _/_, _%_, _<_, _≤_, max, min};
+ghost use Prim.Native.Nat.{_+_, _*_, _/_, _%_, _<_, _≤_};
 ghost use lib.Dec.{eqb};
 ghost use lib.ListN.{length, take};
 ghost use Rattle.refusals.specs.Codes.{firstOf, ifAccepted, verdictCode};
@@ -11,10 +11,10 @@ ghost use Rattle.arithmetic.specs.Field.{powerOf, oppositeOf};
 ghost use Rattle.matrices.specs.Linear.{at};
 ghost use Rattle.secrecy.specs.Counts.{sumTo};
 ghost use Rattle.secrecy.specs.Lists.{tab};
-ghost use Rattle.vetting.specs.Plans.{usersOf, inBounds, plannedCode, plannedPlan};
+ghost use Rattle.vetting.specs.Plans.{usersOf, inBounds, noPlan, plannedCode, plannedPlan};
 ghost use Rattle.vetting.specs.Walk.{pairs};
 ghost use Rattle.vetting.specs.Verdict.{leakCheck};
-ghost use Rattle.vetting.specs.Maker.{rateOf, entry, madeTable, makerCode, makerPlan, makerTable};
+ghost use Rattle.vetting.specs.Maker.{rateOf, planOf, entry, madeTable, makerChecks, makerCode, makerPlan, makerTable};
 use crate::Plan;
 use crate::Planned;
 use crate::bounds::counts_fit;
@@ -27,26 +27,18 @@ use matrices::copy;
 use refusals::Refusal;
 use refusals::Verdict;
 
-fn larger(a: usize, b: usize) -> usize
-    ensures { λ r. ⌜ r ≡ max a b ⌝ }
-{
-    if a < b { b } else { a }
-}
-
-fn smaller(a: usize, b: usize) -> usize
-    ensures { λ r. ⌜ r ≡ min a b ⌝ }
-{
-    if a < b { a } else { b }
-}
-
 // R, for counts within their bounds: what a relay asks, and what the server asks, which is never more than the users but one.
 fn rate_of(clusters: usize, size: usize, limit: usize) -> usize
     requires { ⌜ (1 ≤ clusters) × (clusters ≤ 8) × (1 ≤ size) × (size ≤ 8) × (limit ≤ 16) ⌝ }
     ensures { λ r. ⌜ r ≡ rateOf clusters size limit ⌝ }
 {
     let relay = size + limit;
-    let server = clusters + limit - 1;
-    larger(relay, smaller(server, clusters * size - 1))
+    let others = clusters * size - 1;
+    let mut server = clusters + limit - 1;
+    if others < server {
+        server = others;
+    }
+    if relay < server { server } else { relay }
 }
 
 // The symbol whose powers row i holds, from 0: γ to the power i, but 0 in the first row, since 1 followed by zeros are the powers of 0.
@@ -127,13 +119,11 @@ fn write_vetted(
     ensures table { λ r. ⌜ now (table .exit) ≡ ifAccepted (verdictCode r) (madeTable (plan .clusters) (plan .size) (plan .limit) (plan .q) generator) (now (table .entry)) ⌝ }
 {
     fill_table(plan, generator, built);
-    match vet(plan, built) {
-        Verdict::Refused(refusal) => Verdict::Refused(refusal),
-        Verdict::Accepted => {
-            copy(built, table);
-            Verdict::Accepted
-        }
+    let verdict = vet(plan, built);
+    if verdict.is_accepted() {
+        copy(built, table);
     }
+    verdict
 }
 
 // The same, with room to build in for the largest table.
@@ -147,18 +137,17 @@ fn write_table(plan: Plan, generator: Symbol, table: &mut [Symbol]) -> Verdict
     write_vetted(plan, generator, &mut built[..m], table)
 }
 
-// The plan with the rate of its counts, and its key table in the lent one, where no check refuses and the vet accepts them.
-pub fn make_table(
+// The checks before the vet's, and the plan with the rate of its counts.
+fn plan_for(
     clusters: usize,
     size: usize,
     limit: usize,
     q: Symbol,
     generator: Symbol,
-    table: &mut [Symbol],
+    table: &[Symbol],
 ) -> Planned
-    ensures { λ r. ⌜ (plannedCode r ≡ makerCode clusters size limit q generator (now (table .entry)))
-        × (plannedPlan r ≡ makerPlan clusters size limit q generator (now (table .entry)))
-        × (now (table .exit) ≡ makerTable clusters size limit q generator (now (table .entry))) ⌝ }
+    ensures code { λ r. ⌜ plannedCode r ≡ firstOf (take 5 (makerChecks clusters size limit q generator (now (table .entry)))) ⌝ }
+    ensures plan { λ r. ⌜ plannedPlan r ≡ ifAccepted (plannedCode r) (planOf clusters size limit q) noPlan ⌝ }
 {
     if !counts_fit(clusters, size, limit) {
         return Planned::Refused(Refusal::OutOfBounds);
@@ -176,15 +165,33 @@ pub fn make_table(
     if table.len() != clusters * size * rate {
         return Planned::Refused(Refusal::WrongLength);
     }
-    let plan = Plan {
+    Planned::Made(Plan {
         clusters,
         size,
         limit,
         rate,
         q,
-    };
-    match write_table(plan, generator, table) {
-        Verdict::Refused(refusal) => Planned::Refused(refusal),
-        Verdict::Accepted => Planned::Made(plan),
+    })
+}
+
+// The plan with the rate of its counts, and its key table in the lent one, where no check refuses and the vet accepts them.
+pub fn make_table(
+    clusters: usize,
+    size: usize,
+    limit: usize,
+    q: Symbol,
+    generator: Symbol,
+    table: &mut [Symbol],
+) -> Planned
+    ensures { λ r. ⌜ (plannedCode r ≡ makerCode clusters size limit q generator (now (table .entry)))
+        × (plannedPlan r ≡ makerPlan clusters size limit q generator (now (table .entry)))
+        × (now (table .exit) ≡ makerTable clusters size limit q generator (now (table .entry))) ⌝ }
+{
+    let planned = plan_for(clusters, size, limit, q, generator, table);
+    if let Planned::Made(plan) = planned {
+        if let Verdict::Refused(refusal) = write_table(plan, generator, table) {
+            return Planned::Refused(refusal);
+        }
     }
+    planned
 }

@@ -11,8 +11,8 @@ ghost use Rattle.vetting.specs.Plans.{usersOf, inBounds, plannedCode, pl
 ghost use Rattle.vetting.specs.Records.{word, bytesOf, wordsOf, bytesOfAll, recordSize, recordOf, distance, start, badTrailer, planRead, readVerdict, planAfter, tableAfter, padded, writeVerdict, bytesAfter};
 use crate::Plan;
 use crate::Planned;
+use crate::verdict::check_plan;
 use arithmetic::Symbol;
-use arithmetic::all_below;
 use arithmetic::is_prime;
 use refusals::Refusal;
 use refusals::Verdict;
@@ -187,13 +187,11 @@ pub fn read_record(bytes: &[u8], table: &mut [Symbol]) -> Planned
     ensures plan { λ r. ⌜ plannedPlan r ≡ planAfter (now (bytes .entry)) (now (table .entry)) ⌝ }
     ensures table { λ _. ⌜ now (table .exit) ≡ tableAfter (now (bytes .entry)) (now (table .entry)) ⌝ }
 {
-    match check_record(bytes, table) {
-        Planned::Refused(refusal) => Planned::Refused(refusal),
-        Planned::Made(plan) => {
-            fill(bytes, start_in(bytes) + HEAD, symbols(plan), table);
-            Planned::Made(plan)
-        }
+    let planned = check_record(bytes, table);
+    if let Planned::Made(plan) = planned {
+        fill(bytes, start_in(bytes) + HEAD, symbols(plan), table);
     }
+    planned
 }
 
 // The bytes of a word.
@@ -256,25 +254,18 @@ fn write_parts(plan: Plan, table: &[Symbol], out: &mut [u8])
     write_trailer(size, &mut out[end..]);
 }
 
+// The vet's checks of a plan and a table, then that of the buffer.
 fn check_writing(plan: Plan, table: &[Symbol], out: &[u8]) -> Verdict
     ensures { λ r. ⌜ verdictCode r ≡ writeVerdict plan (now (table .entry)) (now (out .entry)) ⌝ }
 {
-    if !plan.in_bounds() {
-        return Verdict::Refused(Refusal::OutOfBounds);
-    }
-    if table.len() != symbols(plan) {
-        return Verdict::Refused(Refusal::WrongLength);
-    }
-    if !is_prime(plan.q) {
-        return Verdict::Refused(Refusal::NotPrime);
-    }
-    if !all_below(plan.q, table) {
-        return Verdict::Refused(Refusal::NotASymbol);
+    let verdict = check_plan(plan, table);
+    if !verdict.is_accepted() {
+        return verdict;
     }
     if out.len() != record_size(plan) {
         return Verdict::Refused(Refusal::WrongLength);
     }
-    Verdict::Accepted
+    verdict
 }
 
 // Writes the record of a plan and its key table.
@@ -282,11 +273,9 @@ pub fn write_record(plan: Plan, table: &[Symbol], out: &mut [u8]) -> Verdict
     ensures code { λ r. ⌜ verdictCode r ≡ writeVerdict plan (now (table .entry)) (now (out .entry)) ⌝ }
     ensures out { λ _. ⌜ now (out .exit) ≡ bytesAfter plan (now (table .entry)) (now (out .entry)) ⌝ }
 {
-    match check_writing(plan, table, out) {
-        Verdict::Refused(refusal) => Verdict::Refused(refusal),
-        Verdict::Accepted => {
-            write_parts(plan, table, out);
-            Verdict::Accepted
-        }
+    let verdict = check_writing(plan, table, out);
+    if verdict.is_accepted() {
+        write_parts(plan, table, out);
     }
+    verdict
 }

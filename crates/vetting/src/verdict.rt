@@ -17,7 +17,7 @@ use refusals::Refusal;
 use refusals::Verdict;
 
 // Checks 1, 4, 2 and 3.
-fn check_plan(plan: Plan, table: &[Symbol]) -> Verdict
+pub(crate) fn check_plan(plan: Plan, table: &[Symbol]) -> Verdict
     ensures { λ r. ⌜ verdictCode r ≡ firstOf (tableChecks plan (now (table .entry))) ⌝ }
 {
     if !plan.in_bounds() {
@@ -58,10 +58,11 @@ fn check_columns(plan: Plan, table: &[Symbol]) -> Verdict
 fn check_table(plan: Plan, table: &[Symbol]) -> Verdict
     ensures { λ r. ⌜ verdictCode r ≡ firstOf (otherChecks plan (now (table .entry))) ⌝ }
 {
-    match check_plan(plan, table) {
-        Verdict::Refused(refusal) => Verdict::Refused(refusal),
-        Verdict::Accepted => check_columns(plan, table),
+    let verdict = check_plan(plan, table);
+    if !verdict.is_accepted() {
+        return verdict;
     }
+    check_columns(plan, table)
 }
 
 // Whether a plan with this key table keeps readings secret from every observer and every coalition of at most T users: the first pair that leaks
@@ -69,14 +70,15 @@ fn check_table(plan: Plan, table: &[Symbol]) -> Verdict
 pub fn vet(plan: Plan, table: &[Symbol]) -> Verdict
     ensures { λ r. ⌜ verdictCode r ≡ verdict plan (now (table .entry)) ⌝ }
 {
-    match check_table(plan, table) {
-        Verdict::Refused(refusal) => Verdict::Refused(refusal),
-        Verdict::Accepted => match find_leak(plan, table) {
-            Found::At(pair) => Verdict::Refused(Refusal::Leaks {
-                coalition: pair.coalition,
-                observer: pair.observer,
-            }),
-            Found::Nothing => Verdict::Accepted,
-        },
+    let verdict = check_table(plan, table);
+    if !verdict.is_accepted() {
+        return verdict;
+    }
+    match find_leak(plan, table) {
+        Found::At(pair) => Verdict::Refused(Refusal::Leaks {
+            coalition: pair.coalition,
+            observer: pair.observer,
+        }),
+        Found::Nothing => verdict,
     }
 }

@@ -1,10 +1,10 @@
 use borrow.Author.Needs.{needs}
 use mathlib.Core.Path.{_≡_, sym, ap, _∙_}
 use Rattle.refusals.specs.declared.Code.{Code}
-use Rattle.refusals.specs.Codes.{accepted, codeOf, verdictCode, firstOf}
-use Rattle.refusals.proofs.CodeLaws.{refused-keeps, accepted-takes}
+use Rattle.refusals.specs.Codes.{accepted, isAccepted}
+use Rattle.refusals.proofs.CodeLaws.{accepted-code, old-kept, accepted-takes}
 use Rattle.arithmetic.proofs.PrimeLaws.{prime-pos}
-use Rattle.vetting.specs.Keys.{keyChecks}
+use Rattle.vetting.specs.Keys.{keyCode}
 use Rattle.vetting.proofs.KeyLaws.{derivable}
 use Rattle.vetting.proofs.keys.derive_keys.Statement.{statement}
 use Rattle.vetting.proofs.keys.derive_keys.Tie as tie
@@ -12,19 +12,16 @@ use Rattle.vetting.proofs.keys.derive_keys.Tie as tie
 check-keys-requires : tie.Need-check-keys-requires
 check-keys-requires c κs = search needs
 
-enum-known-refusal : tie.Need-enum-known-refusal
-enum-known-refusal c = search needs
-
-enum-told : tie.Need-enum-told
-enum-told c = search needs
+is-accepted-requires : tie.Need-is-accepted-requires
+is-accepted-requires c κs = search needs
 
 -- the code of the call
 abbrev code : tie.Start → Code
-code s = firstOf (keyChecks (s .args .plan) (s .args .table .now) (s .args .length) (s .args .source .now) (s .args .keys .now))
+code s = keyCode (s .args .plan) (s .args .table .now) (s .args .length) (s .args .source .now) (s .args .keys .now)
 
 -- the checks accepted
-told : (c : tie.After-enum-told) → accepted ≡ code (c .before .before .before .before .before .before .before)
-told c = sym (ap verdictCode (c .enum-told .given .1)) ∙ c .before .before .check-keys .ensures
+told : (c : tie.Then1) → accepted ≡ code (c .before .before .before .before .before .before .before)
+told c = accepted-code (c .before .before .check-keys .result) (sym (c .before .is-accepted .ensures) ∙ c .if1 .taken) ∙ c .before .before .check-keys .ensures
 
 write-keys-requires : tie.Need-write-keys-requires
 write-keys-requires c κs =
@@ -37,26 +34,24 @@ same-length c = search needs
 
 returns : tie.Need-returns
 returns c =
-    let s = c .before .before .before .before .before .before .before .before in
-    let e : codeOf (c .before .refusal .given .0 .0) ≡ code s = sym (ap verdictCode (c .before .refusal .given .1)) ∙ c .before .before .before .check-keys .ensures in
-    (e, sym (refused-keeps (code s) _ (s .args .keys .now) (c .before .refusal .given .0 .0) e))
+    let s = c .before .before .before .before .before .before .before .before .before .before .before in
+    (c .before .before .before .before .before .before .check-keys .ensures, c .before .before .write-keys .ensures ∙ sym (accepted-takes (code s) _ (s .args .keys .now) (told (c .before .before .before .before))))
 
 same-length-2 : tie.Need-same-length-2
 same-length-2 c = search needs
 
 returns-2 : tie.Need-returns-2
 returns-2 c =
-    let s = c .before .before .before .before .before .before .before .before .before .before .before in
-    let e : accepted ≡ code s = told (c .before .before .before .before) in
-    (e, c .before .before .write-keys .ensures ∙ sym (accepted-takes (code s) _ (s .args .keys .now) e))
+    let s = c .before .before .before .before .before .before .before in
+    let e = c .before .before .check-keys .ensures in
+    (e, sym (old-kept (code s) _ (s .args .keys .now) (ap isAccepted (sym e) ∙ sym (c .before .is-accepted .ensures) ∙ c .if1 .left)))
 
 pub derive-keys-spec : {M : Type 1} → statement M
 derive-keys-spec =
     tie.close
     (tie.spec
     check-keys-requires
-    enum-known-refusal
-    enum-told
+    is-accepted-requires
     write-keys-requires
     same-length
     returns

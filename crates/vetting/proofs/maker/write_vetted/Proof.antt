@@ -1,14 +1,14 @@
 use borrow.Author.Needs.{needs}
-use mathlib.Core.Path.{_≡_, refl, sym, ap, _∙_}
+use borrow.Author.Tests.{eq-eqb}
+use mathlib.Core.Path.{_≡_, sym, ap, _∙_}
 use mathlib.Core.Bool.{Bool, cond}
 use mathlib.Core.List.{List, map}
 use Prim.Native.Nat.{ℕ}
 use lib.Dec.{eqb}
 use lib.ListN.{length}
-use borrow.Author.Tests.{eq-eqb}
 use Rattle.refusals.specs.declared.Code.{Code}
 use Rattle.refusals.specs.Codes.{verdictCode, firstOf}
-use Rattle.refusals.proofs.CodeLaws.{refused-keeps}
+use Rattle.refusals.proofs.CodeLaws.{new-taken, old-kept}
 use Rattle.arithmetic.proofs.PrimeLaws.{true-prime}
 use Rattle.vetting.specs.Walk.{pairs}
 use Rattle.vetting.specs.Verdict.{leakCheck, verdict}
@@ -28,11 +28,8 @@ fill-table-requires c κs = search needs
 vet-requires : tie.Need-vet-requires
 vet-requires c κs = search needs
 
-enum-known-refusal : tie.Need-enum-known-refusal
-enum-known-refusal c = search needs
-
-enum-told : tie.Need-enum-told
-enum-told c = search needs
+is-accepted-requires : tie.Need-is-accepted-requires
+is-accepted-requires c κs = search needs
 
 copy-requires : tie.Need-copy-requires
 copy-requires c κs = search needs
@@ -40,11 +37,13 @@ copy-requires c κs = search needs
 same-length : tie.Need-same-length
 same-length c = search needs
 
+-- the table of the plan
+abbrev made : tie.Start → List ℕ
+made s = let P = s .args .plan in madeTable (P .clusters) (P .size) (P .limit) (P .q) (s .args .generator)
+
 -- what the vet finds of the table that was built is what the walk finds
 abbrev walk : tie.Start → Code
-walk s =
-    let P = s .args .plan in
-    firstOf (map (leakCheck P (madeTable (P .clusters) (P .size) (P .limit) (P .q) (s .args .generator))) (pairs (P .clusters) (P .size) (P .limit)))
+walk s = let P = s .args .plan in firstOf (map (leakCheck P (made s)) (pairs (P .clusters) (P .size) (P .limit)))
 
 found : (c : tie.After-vet) → verdictCode (c .vet .result) ≡ walk (c .before .before .before .before .before .before .before .before)
 found c =
@@ -54,23 +53,27 @@ found c =
     ∙ ap (verdict P) (c .before .before .before .before .fill-table .ensures)
     ∙ made-verdict P (s .args .generator) (bounds-known P (s .pre .0)) (true-prime (P .q) (s .pre .1)) (s .pre .2) (s .pre .0)
 
-returns : tie.Need-returns
-returns c =
-    let e = sym (ap verdictCode (c .before .refusal .given .1)) ∙ found (c .before .before .before) in
-    (e, sym (refused-keeps _ _ _ (c .before .refusal .given .0 .0) refl))
-
 same-length-2 : tie.Need-same-length-2
 same-length-2 c = search needs
+
+returns : tie.Need-returns
+returns c =
+    let v = c .before .before .before .before .before .before .before in
+    let s = v .before .before .before .before .before .before .before .before in
+    let built : List ℕ = v .before .before .before .before .fill-table .last .1 .1 .0 in
+    let lent : List ℕ = s .args .table .now in
+    let copied = copied-whole built lent _ (c .before .before .copy .ensures) (search needs) in
+    let accepts = sym (c .before .before .before .before .before .before .is-accepted .ensures) ∙ c .before .before .before .before .before .if1 .taken in
+    (found v, copied ∙ v .before .before .before .before .fill-table .ensures ∙ sym (new-taken (verdictCode (v .vet .result)) (made s) lent accepts))
 
 same-length-3 : tie.Need-same-length-3
 same-length-3 c = search needs
 
 returns-2 : tie.Need-returns-2
 returns-2 c =
-    let built : List ℕ = c .before .before .before .before .before .before .before .before .before .before .before .fill-table .last .1 .1 .0 in
-    let lent : List ℕ = c .before .before .before .before .before .before .before .before .before .before .before .before .before .before .before .args .table .now in
-    let copied = copied-whole built lent _ (c .before .before .copy .ensures) (search needs) in
-    (sym (ap verdictCode (c .before .before .before .before .before .enum-told .given .1)) ∙ found (c .before .before .before .before .before .before .before), copied ∙ c .before .before .before .before .before .before .before .before .before .before .before .fill-table .ensures)
+    let v = c .before .before in
+    let s = v .before .before .before .before .before .before .before .before in
+    (found v, sym (old-kept (verdictCode (v .vet .result)) (made s) (s .args .table .now) (sym (c .before .is-accepted .ensures) ∙ c .if1 .left)))
 
 pub write-vetted-spec : {M : Type 1} → statement M
 write-vetted-spec =
@@ -78,11 +81,10 @@ write-vetted-spec =
     (tie.spec
     fill-table-requires
     vet-requires
-    enum-known-refusal
-    enum-told
+    is-accepted-requires
     copy-requires
     same-length
-    returns
     same-length-2
+    returns
     same-length-3
     returns-2)

@@ -1,26 +1,26 @@
 use borrow.Author.Needs.{needs}
 use mathlib.Core.Path.{_≡_, sym, ap, _∙_}
-use mathlib.Core.List.{List}
-use Prim.Native.Nat.{ℕ}
-use Rattle.refusals.specs.Codes.{accepted, verdictCode}
-use Rattle.refusals.proofs.CodeLaws.{refused-keeps, accepted-takes}
-use Rattle.vetting.specs.Records.{recordOf, writeVerdict}
+use Rattle.refusals.specs.declared.Code.{Code}
+use Rattle.refusals.specs.Codes.{accepted, isAccepted}
+use Rattle.refusals.proofs.CodeLaws.{accepted-code, old-kept, accepted-takes}
+use Rattle.vetting.specs.Records.{writeVerdict}
 use Rattle.vetting.proofs.RecordChecks.{writable}
 use Rattle.vetting.proofs.records.write_record.Statement.{statement}
 use Rattle.vetting.proofs.records.write_record.Tie as tie
 
--- the checks accepted
-told : (c : tie.After-enum-told) → (let a = c .before .before .before .before .before .before .args in accepted ≡ writeVerdict (a .plan) (a .table .now) (a .out .now))
-told c = sym (ap verdictCode (c .enum-told .given .1)) ∙ c .before .before .check-writing .ensures
-
 check-writing-requires : tie.Need-check-writing-requires
 check-writing-requires c κs = search needs
 
-enum-known-refusal : tie.Need-enum-known-refusal
-enum-known-refusal c = search needs
+is-accepted-requires : tie.Need-is-accepted-requires
+is-accepted-requires c κs = search needs
 
-enum-told : tie.Need-enum-told
-enum-told c = search needs
+-- the code of the call
+abbrev code : tie.Start → Code
+code s = writeVerdict (s .args .plan) (s .args .table .now) (s .args .out .now)
+
+-- the checks accepted
+told : (c : tie.Then1) → accepted ≡ code (c .before .before .before .before .before .before)
+told c = accepted-code (c .before .before .check-writing .result) (sym (c .before .is-accepted .ensures) ∙ c .if1 .taken) ∙ c .before .before .check-writing .ensures
 
 write-parts-requires : tie.Need-write-parts-requires
 write-parts-requires c κs =
@@ -33,30 +33,24 @@ same-length c = search needs
 
 returns : tie.Need-returns
 returns c =
-    let a = c .before .before .before .before .before .before .before .args in
-    let K : List ℕ = a .table .now in
-    let out : List ℕ = a .out .now in
-    let e = sym (ap verdictCode (c .before .refusal .given .1)) ∙ c .before .before .before .check-writing .ensures in
-    (e, sym (refused-keeps (writeVerdict (a .plan) K out) (recordOf (a .plan) K) out (c .before .refusal .given .0 .0) e))
+    let s = c .before .before .before .before .before .before .before .before .before .before in
+    (c .before .before .before .before .before .before .check-writing .ensures, c .before .before .write-parts .ensures ∙ sym (accepted-takes (code s) _ (s .args .out .now) (told (c .before .before .before .before))))
 
 same-length-2 : tie.Need-same-length-2
 same-length-2 c = search needs
 
 returns-2 : tie.Need-returns-2
 returns-2 c =
-    let a = c .before .before .before .before .before .before .before .before .before .before .args in
-    let K : List ℕ = a .table .now in
-    let out : List ℕ = a .out .now in
-    let e = told (c .before .before .before .before) in
-    (e, c .before .before .write-parts .ensures ∙ sym (accepted-takes (writeVerdict (a .plan) K out) (recordOf (a .plan) K) out e))
+    let s = c .before .before .before .before .before .before in
+    let e = c .before .before .check-writing .ensures in
+    (e, sym (old-kept (code s) _ (s .args .out .now) (ap isAccepted (sym e) ∙ sym (c .before .is-accepted .ensures) ∙ c .if1 .left)))
 
 pub write-record-spec : {M : Type 1} → statement M
 write-record-spec =
     tie.close
     (tie.spec
     check-writing-requires
-    enum-known-refusal
-    enum-told
+    is-accepted-requires
     write-parts-requires
     same-length
     returns

@@ -1,38 +1,37 @@
+use borrow.Author.Needs.{needs}
+use borrow.Author.Tests.{not-true, not-false}
 use mathlib.Core.Path.{_≡_, sym, ap, _∙_}
 use mathlib.Core.List.{[]}
 use Rattle.vetting.specs.Verdict.{tableChecks, columnChecks}
-use Rattle.refusals.specs.Codes.{accepted, verdictCode, firstOf}
+use Rattle.refusals.specs.Codes.{accepted, isAccepted, firstOf}
+use Rattle.refusals.proofs.CodeLaws.{accepted-code}
 use Rattle.arithmetic.proofs.PrimeLaws.{prime-pos}
-use Rattle.refusals.proofs.Orders.{first-refuses, rest-decides}
+use Rattle.refusals.proofs.Orders.{first-decides, rest-decides}
 use Rattle.vetting.proofs.VerdictLaws.{table-passed}
-use borrow.Author.Needs.{needs}
 use Rattle.vetting.proofs.verdict.check_table.Statement.{statement}
 use Rattle.vetting.proofs.verdict.check_table.Tie as tie
 
 check-plan-requires : tie.Need-check-plan-requires
 check-plan-requires c κs = search needs
 
-enum-known-refusal : tie.Need-enum-known-refusal
-enum-known-refusal c = search needs
+is-accepted-requires : tie.Need-is-accepted-requires
+is-accepted-requires c κs = search needs
 
-enum-told : tie.Need-enum-told
-enum-told c = search needs
+returns : tie.Need-returns
+returns c =
+    let a = c .before .before .before .before .args in
+    let e = c .before .before .check-plan .ensures in
+    e ∙ first-decides (tableChecks (a .plan) (a .table .now)) (columnChecks (a .plan) (a .table .now)) (ap isAccepted (sym e) ∙ sym (c .before .is-accepted .ensures) ∙ not-true _ (c .if1 .taken))
 
 -- the checks accepted
-told : (c : tie.After-enum-told) → (let a = c .before .before .before .before .args in accepted ≡ firstOf (tableChecks (a .plan) (a .table .now)))
-told c = sym (ap verdictCode (c .enum-told .given .1)) ∙ c .before .before .check-plan .ensures
+told : (c : tie.Else1) → (let a = c .before .before .before .before .args in accepted ≡ firstOf (tableChecks (a .plan) (a .table .now)))
+told c = accepted-code (c .before .before .check-plan .result) (sym (c .before .is-accepted .ensures) ∙ not-false _ (c .if1 .left)) ∙ c .before .before .check-plan .ensures
 
 check-columns-requires : tie.Need-check-columns-requires
 check-columns-requires c κs =
     let a = c .before .before .before .before .args in
     let p = table-passed (a .plan) (a .table .now) [] tt (told c) in
     (p .bounds, p .size, prime-pos (p .prime))
-
-returns : tie.Need-returns
-returns c =
-    let a = c .before .before .before .before .before .args in
-    first-refuses (tableChecks (a .plan) (a .table .now)) (columnChecks (a .plan) (a .table .now)) (c .before .refusal .given .0 .0)
-    (sym (ap verdictCode (c .before .refusal .given .1)) ∙ c .before .before .before .check-plan .ensures)
 
 returns-2 : tie.Need-returns-2
 returns-2 c =
@@ -42,10 +41,4 @@ returns-2 c =
 pub check-table-spec : {M : Type 1} → statement M
 check-table-spec =
     tie.close
-    (tie.spec
-    check-plan-requires
-    enum-known-refusal
-    enum-told
-    check-columns-requires
-    returns
-    returns-2)
+    (tie.spec check-plan-requires is-accepted-requires returns check-columns-requires returns-2)
