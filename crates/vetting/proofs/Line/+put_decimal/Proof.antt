@@ -28,7 +28,6 @@ abbrev put-decimal-below : ℕ → In 0 put-decimal-kinds.ps
 put-decimal-below t =
     and 0 put-decimal-kinds.ps (falls 0 put-decimal-kinds.ps _<_ μ-put-decimal t) put-decimal.Pre
 
--- src/program.rt:68:34
 put-decimal-cast-put : (t : ℕ) → put-decimal-lts.Need-cast-put (
   put-reads.Asked,
   put-reads.Learnt,
@@ -37,7 +36,6 @@ put-decimal-cast-put : (t : ℕ) → put-decimal-lts.Need-cast-put (
 ) (put-decimal-at t) put-decimal.Post
 put-decimal-cast-put t c = search needs
 
--- src/program.rt:68:29
 put-decimal-add-put : (t : ℕ) → put-decimal-lts.Need-add-put (
   put-reads.Asked,
   put-reads.Learnt,
@@ -46,7 +44,6 @@ put-decimal-add-put : (t : ℕ) → put-decimal-lts.Need-add-put (
 ) (put-decimal-at t) put-decimal.Post
 put-decimal-add-put t c = search needs
 
--- src/program.rt:68:13
 put-decimal-put-requires : (t : ℕ) → put-decimal-lts.Need-put-requires (
   put-reads.Asked,
   put-reads.Learnt,
@@ -55,7 +52,6 @@ put-decimal-put-requires : (t : ℕ) → put-decimal-lts.Need-put-requires (
 ) (put-decimal-at t) put-decimal.Post
 put-decimal-put-requires t c κs = omega arith
 
--- src/program.rt:68:13
 put-decimal-returns : (t : ℕ) → put-decimal-lts.Need-returns (
   put-reads.Asked,
   put-reads.Learnt,
@@ -66,7 +62,6 @@ put-decimal-returns t c =
     let a = c .before .before .args in
     c .put .ensures ∙ ap (typed (a .self)) (sym (one-digit (a .n) (c .before .if1 .taken)))
 
--- src/program.rt:70:13
 put-decimal-put-decimal-requires : (t : ℕ) → put-decimal-lts.Need-put-decimal-requires (
   put-reads.Asked,
   put-reads.Learnt,
@@ -75,7 +70,6 @@ put-decimal-put-decimal-requires : (t : ℕ) → put-decimal-lts.Need-put-decima
 ) (put-decimal-at t) put-decimal.Post
 put-decimal-put-decimal-requires t c κs = (omega arith, omega arith)
 
--- src/program.rt:71:23
 put-decimal-cast-put-2 : (t : ℕ) → put-decimal-lts.Need-cast-put-2 (
   put-reads.Asked,
   put-reads.Learnt,
@@ -84,7 +78,6 @@ put-decimal-cast-put-2 : (t : ℕ) → put-decimal-lts.Need-cast-put-2 (
 ) (put-decimal-at t) put-decimal.Post
 put-decimal-cast-put-2 t c = search needs
 
--- src/program.rt:71:18
 put-decimal-add-put-2 : (t : ℕ) → put-decimal-lts.Need-add-put-2 (
   put-reads.Asked,
   put-reads.Learnt,
@@ -93,7 +86,6 @@ put-decimal-add-put-2 : (t : ℕ) → put-decimal-lts.Need-add-put-2 (
 ) (put-decimal-at t) put-decimal.Post
 put-decimal-add-put-2 t c = search needs
 
--- src/program.rt:71:9
 put-decimal-put-requires-2 : (t : ℕ) → put-decimal-lts.Need-put-requires-2 (
   put-reads.Asked,
   put-reads.Learnt,
@@ -104,7 +96,6 @@ put-decimal-put-requires-2 t c κs =
     let a = c .before .before .args in
     omega (arith, ap (λ (l : Line). l .length) (c .put-decimal .ensures), typed-length (a .self) (decimal (a .n / 10)), tenth-length (a .n) (omega arith))
 
--- src/program.rt:63:5
 put-decimal-returns-2 : (t : ℕ) → put-decimal-lts.Need-returns-2 (
   put-reads.Asked,
   put-reads.Learnt,

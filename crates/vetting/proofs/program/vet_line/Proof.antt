@@ -8,19 +8,15 @@ use Rattle.vetting.proofs.LineLaws.{line-room}
 use Rattle.vetting.proofs.program.vet_line.Statement.{statement}
 use Rattle.vetting.proofs.program.vet_line.Tie as tie
 
--- src/program.rt:92:26
 vet-record-requires : tie.Need-vet-record-requires
 vet-record-requires c κs = search needs
 
--- src/program.rt:92:13
 verdict-code-requires : tie.Need-verdict-code-requires
 verdict-code-requires c κs = search needs
 
--- src/program.rt:92:5
 line-of-requires : tie.Need-line-of-requires
 line-of-requires c κs = search needs
 
--- src/program.rt:89:1
 returns : tie.Need-returns
 returns c =
     let text : List ℕ = lineOf (programCode (c .before .before .before .before .args .bytes .now)) in

@@ -82,7 +82,6 @@ module _ (c : tie.After-plan) where
         e ∙ ap₂ verdict plan-is part-is
         ∙ rest-decides (readChecks B lent) (vetChecks (planRead B) (tableRead B)) tt told
 
--- src/program.rt:38:9
 returns : tie.Need-returns
 returns c = simp (lt-ltb _ _ (c .if1 .taken))
 
