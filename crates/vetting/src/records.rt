@@ -2,7 +2,7 @@
 ghost use mathlib.Core.Path.{_≡_};
 ghost use mathlib.Core.Bool.{true, false};
 ghost use mathlib.Core.List.{[], _∷_, _++_};
-ghost use Prim.Native.Nat.{_+_, _*_, _/_, _%_, _≤_, _<_};
+ghost use Prim.Native.Nat.{_+_, _*_, _≤_, _<_};
 ghost use lib.ListN.{length};
 ghost use Rattle.refusals.specs.Codes.{verdictCode};
 ghost use Rattle.arithmetic.specs.Primes.{allBelow};
@@ -29,13 +29,6 @@ const LAST_MARK: u8 = 0x50;
 
 // The length of the table that is lent to the reader: the most symbols of a plan.
 pub const READ_TABLE: usize = 256;
-
-// A byte as a count.
-fn wide(b: u8) -> usize
-    ensures { λ r. ⌜ r ≡ b ⌝ }
-{
-    b as usize
-}
 
 // Two bytes, low first.
 fn word_at(bytes: &[u8], i: usize) -> Symbol
@@ -90,10 +83,10 @@ fn plan_in(bytes: &[u8]) -> Plan
 {
     let start = start_in(bytes);
     Plan {
-        clusters: wide(bytes[start]),
-        size: wide(bytes[start + 1]),
-        limit: wide(bytes[start + 2]),
-        rate: wide(bytes[start + 3]),
+        clusters: bytes[start] as usize,
+        size: bytes[start + 1] as usize,
+        limit: bytes[start + 2] as usize,
+        rate: bytes[start + 3] as usize,
         q: word_at(bytes, start + 4),
     }
 }
@@ -194,19 +187,6 @@ pub fn read_record(bytes: &[u8], table: &mut [Symbol]) -> Planned
     planned
 }
 
-// The bytes of a word.
-fn low_byte(x: Symbol) -> u8
-    ensures { λ r. ⌜ r ≡ x % 256 ⌝ }
-{
-    (x % 256) as u8
-}
-
-fn high_byte(x: Symbol) -> u8
-    ensures { λ r. ⌜ r ≡ x / 256 ⌝ }
-{
-    (x / 256) as u8
-}
-
 fn write_head(plan: Plan, out: &mut [u8])
     requires { ⌜ (plan .clusters < 256) × (plan .size < 256) × (plan .limit < 256) × (plan .rate < 256) × (length (now out) ≡ 6) ⌝ }
     ensures { λ _. ⌜ now (out .exit) ≡ plan .clusters ∷ plan .size ∷ plan .limit ∷ plan .rate ∷ bytesOf (plan .q) ⌝ }
@@ -215,8 +195,8 @@ fn write_head(plan: Plan, out: &mut [u8])
     out[1] = plan.size as u8;
     out[2] = plan.limit as u8;
     out[3] = plan.rate as u8;
-    out[4] = low_byte(plan.q);
-    out[5] = high_byte(plan.q);
+    out[4] = (plan.q % 256) as u8;
+    out[5] = (plan.q / 256) as u8;
 }
 
 fn write_symbols(table: &[Symbol], out: &mut [u8])
@@ -226,8 +206,8 @@ fn write_symbols(table: &[Symbol], out: &mut [u8])
     let mut k = 0;
     while k < table.len() {
         let x = table[k];
-        out[2 * k] = low_byte(x);
-        out[2 * k + 1] = high_byte(x);
+        out[2 * k] = (x % 256) as u8;
+        out[2 * k + 1] = (x / 256) as u8;
         k += 1;
     }
 }
@@ -236,8 +216,8 @@ fn write_trailer(distance: usize, out: &mut [u8])
     requires { ⌜ (distance < 65536) × (length (now out) ≡ 4) ⌝ }
     ensures { λ _. ⌜ now (out .exit) ≡ bytesOf distance ++ (0x4b ∷ 0x50 ∷ []) ⌝ }
 {
-    out[0] = low_byte(distance as Symbol);
-    out[1] = high_byte(distance as Symbol);
+    out[0] = (distance % 256) as u8;
+    out[1] = (distance / 256) as u8;
     out[2] = FIRST_MARK;
     out[3] = LAST_MARK;
 }

@@ -2,7 +2,7 @@ use borrow.Author.Needs.{needs}
 use mathlib.Core.Path.{_≡_, sym, ap, _∙_}
 use Rattle.refusals.specs.declared.Code.{Code}
 use Rattle.refusals.specs.Codes.{accepted, isAccepted}
-use Rattle.refusals.proofs.CodeLaws.{accepted-code, old-kept, accepted-takes}
+use Rattle.refusals.proofs.CodeLaws.{accepted-code, new-taken, old-kept}
 use Rattle.arithmetic.proofs.PrimeLaws.{prime-pos}
 use Rattle.vetting.specs.Keys.{keyCode}
 use Rattle.vetting.proofs.KeyLaws.{derivable}
@@ -19,7 +19,10 @@ is-accepted-requires c κs = search needs
 abbrev code : tie.Start → Code
 code s = keyCode (s .args .plan) (s .args .table .now) (s .args .length) (s .args .source .now) (s .args .keys .now)
 
--- the checks accepted
+-- whether it accepts
+answer : (c : tie.After-is-accepted) → isAccepted (code (c .before .before .before .before .before .before)) ≡ c .is-accepted .result
+answer c = ap isAccepted (sym (c .before .check-keys .ensures)) ∙ sym (c .is-accepted .ensures)
+
 told : (c : tie.Then1) → accepted ≡ code (c .before .before .before .before .before .before .before)
 told c = accepted-code (c .before .before .check-keys .result) (sym (c .before .is-accepted .ensures) ∙ c .if1 .taken) ∙ c .before .before .check-keys .ensures
 
@@ -35,7 +38,8 @@ same-length c = search needs
 returns : tie.Need-returns
 returns c =
     let s = c .before .before .before .before .before .before .before .before .before .before .before in
-    (c .before .before .before .before .before .before .check-keys .ensures, c .before .before .write-keys .ensures ∙ sym (accepted-takes (code s) _ (s .args .keys .now) (told (c .before .before .before .before))))
+    let t = c .before .before .before .before in
+    (t .before .before .check-keys .ensures, c .before .before .write-keys .ensures ∙ sym (new-taken (code s) _ (s .args .keys .now) (answer (t .before) ∙ t .if1 .taken)))
 
 same-length-2 : tie.Need-same-length-2
 same-length-2 c = search needs
@@ -43,8 +47,7 @@ same-length-2 c = search needs
 returns-2 : tie.Need-returns-2
 returns-2 c =
     let s = c .before .before .before .before .before .before .before in
-    let e = c .before .before .check-keys .ensures in
-    (e, sym (old-kept (code s) _ (s .args .keys .now) (ap isAccepted (sym e) ∙ sym (c .before .is-accepted .ensures) ∙ c .if1 .left)))
+    (c .before .before .check-keys .ensures, sym (old-kept (code s) _ (s .args .keys .now) (answer (c .before) ∙ c .if1 .left)))
 
 pub derive-keys-spec : {M : Type 1} → statement M
 derive-keys-spec =

@@ -1,7 +1,6 @@
 use borrow.Author.Needs.{needs}
-use mathlib.Core.Path.{ap₂, _∙_}
-use mathlib.Core.List.{List, [], _∷_}
-use Prim.Native.Nat.{ℕ}
+use mathlib.Core.List.{[], _∷_}
+use Prim.Native.Nat.{_/_, _%_}
 use native.Mathlib.Omega.{arith}
 use lib.ListN.{length-set}
 use Rattle.vetting.proofs.Fills.{stored-all}
@@ -32,14 +31,14 @@ cast-out-4 c = search needs
 slice-write-out-4 : tie.Need-slice-write-out-4
 slice-write-out-4 c = search needs
 
-low-byte-requires : tie.Need-low-byte-requires
-low-byte-requires c κs = search needs
+cast-out-5 : tie.Need-cast-out-5
+cast-out-5 c = search needs
 
 slice-write-out-5 : tie.Need-slice-write-out-5
 slice-write-out-5 c = simp length-set (omega arith)
 
-high-byte-requires : tie.Need-high-byte-requires
-high-byte-requires c κs = search needs
+cast-out-6 : tie.Need-cast-out-6
+cast-out-6 c = search needs
 
 slice-write-out-6 : tie.Need-slice-write-out-6
 slice-write-out-6 c = simp length-set (omega arith)
@@ -49,10 +48,9 @@ same-length c = search needs
 
 returns : tie.Need-returns
 returns c =
-    let s = c .before .before .before .before .before .before .before in
+    let s = c .before .before .before .before .before .before in
     let P = s .args .plan in
-    let stores : ℕ → ℕ → List ℕ = λ low high. P .clusters ∷ P .size ∷ P .limit ∷ P .rate ∷ low ∷ high ∷ [] in
-    stored-all (s .args .out .now) (stores (c .before .low-byte .result) (c .high-byte .result)) (s .pre .4) ∙ ap₂ stores (c .before .low-byte .ensures) (c .high-byte .ensures)
+    stored-all (s .args .out .now) (P .clusters ∷ P .size ∷ P .limit ∷ P .rate ∷ P .q % 256 ∷ P .q / 256 ∷ []) (s .pre .4)
 
 pub write-head-spec : {M : Type 1} → statement M
 write-head-spec =
@@ -66,9 +64,9 @@ write-head-spec =
     slice-write-out-3
     cast-out-4
     slice-write-out-4
-    low-byte-requires
+    cast-out-5
     slice-write-out-5
-    high-byte-requires
+    cast-out-6
     slice-write-out-6
     same-length
     returns)

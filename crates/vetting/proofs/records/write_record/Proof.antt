@@ -2,7 +2,7 @@ use borrow.Author.Needs.{needs}
 use mathlib.Core.Path.{_≡_, sym, ap, _∙_}
 use Rattle.refusals.specs.declared.Code.{Code}
 use Rattle.refusals.specs.Codes.{accepted, isAccepted}
-use Rattle.refusals.proofs.CodeLaws.{accepted-code, old-kept, accepted-takes}
+use Rattle.refusals.proofs.CodeLaws.{accepted-code, new-taken, old-kept}
 use Rattle.vetting.specs.Records.{writeVerdict}
 use Rattle.vetting.proofs.RecordChecks.{writable}
 use Rattle.vetting.proofs.records.write_record.Statement.{statement}
@@ -18,7 +18,10 @@ is-accepted-requires c κs = search needs
 abbrev code : tie.Start → Code
 code s = writeVerdict (s .args .plan) (s .args .table .now) (s .args .out .now)
 
--- the checks accepted
+-- whether it accepts
+answer : (c : tie.After-is-accepted) → isAccepted (code (c .before .before .before .before .before)) ≡ c .is-accepted .result
+answer c = ap isAccepted (sym (c .before .check-writing .ensures)) ∙ sym (c .is-accepted .ensures)
+
 told : (c : tie.Then1) → accepted ≡ code (c .before .before .before .before .before .before)
 told c = accepted-code (c .before .before .check-writing .result) (sym (c .before .is-accepted .ensures) ∙ c .if1 .taken) ∙ c .before .before .check-writing .ensures
 
@@ -34,7 +37,8 @@ same-length c = search needs
 returns : tie.Need-returns
 returns c =
     let s = c .before .before .before .before .before .before .before .before .before .before in
-    (c .before .before .before .before .before .before .check-writing .ensures, c .before .before .write-parts .ensures ∙ sym (accepted-takes (code s) _ (s .args .out .now) (told (c .before .before .before .before))))
+    let t = c .before .before .before .before in
+    (t .before .before .check-writing .ensures, c .before .before .write-parts .ensures ∙ sym (new-taken (code s) _ (s .args .out .now) (answer (t .before) ∙ t .if1 .taken)))
 
 same-length-2 : tie.Need-same-length-2
 same-length-2 c = search needs
@@ -42,8 +46,7 @@ same-length-2 c = search needs
 returns-2 : tie.Need-returns-2
 returns-2 c =
     let s = c .before .before .before .before .before .before in
-    let e = c .before .before .check-writing .ensures in
-    (e, sym (old-kept (code s) _ (s .args .out .now) (ap isAccepted (sym e) ∙ sym (c .before .is-accepted .ensures) ∙ c .if1 .left)))
+    (c .before .before .check-writing .ensures, sym (old-kept (code s) _ (s .args .out .now) (answer (c .before) ∙ c .if1 .left)))
 
 pub write-record-spec : {M : Type 1} → statement M
 write-record-spec =

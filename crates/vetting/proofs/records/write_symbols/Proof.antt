@@ -2,9 +2,10 @@
 use borrow.Author.Needs.{needs}
 use mathlib.Core.Path.{_≡_, refl, sym, _∙_, subst}
 use mathlib.Core.List.{List}
-use Prim.Native.Nat.{ℕ, _+_, _-_, _*_, _<_}
+use Prim.Native.Nat.{ℕ, _+_, _-_, _*_, _/_, _%_, _<_}
 use native.Mathlib.Omega.{arith}
 use lib.ListN.{length, take, set, length-set}
+use Rattle.matrices.specs.Linear.{at}
 use Rattle.vetting.specs.Records.{bytesOfAll}
 use Rattle.vetting.proofs.Bytes.{length-bytes, low-at, high-at}
 use Rattle.vetting.proofs.Fills.{fill-next, fill-done}
@@ -18,7 +19,7 @@ abbrev μ-loop : tie.MeasureT-loop
 μ-loop table out₀ k₀ out k = length table - k
 
 loop-holds : tie.Need-loop-holds Inv-loop μ-loop
-loop-holds c = (c .before .before .pre, refl)
+loop-holds c = (c .pre, refl)
 
 mul-x : tie.Need-mul-x Inv-loop μ-loop
 mul-x c = search needs
@@ -26,8 +27,8 @@ mul-x c = search needs
 shared-slice-read-x : tie.Need-shared-slice-read-x Inv-loop μ-loop
 shared-slice-read-x c = search needs
 
-low-byte-requires : tie.Need-low-byte-requires Inv-loop μ-loop
-low-byte-requires c κs = search needs
+cast-out : tie.Need-cast-out Inv-loop μ-loop
+cast-out c = search needs
 
 mul-out : tie.Need-mul-out Inv-loop μ-loop
 mul-out c = search needs
@@ -35,8 +36,8 @@ mul-out c = search needs
 slice-write-out : tie.Need-slice-write-out Inv-loop μ-loop
 slice-write-out c = search needs
 
-high-byte-requires : tie.Need-high-byte-requires Inv-loop μ-loop
-high-byte-requires c κs = search needs
+cast-out-2 : tie.Need-cast-out-2 Inv-loop μ-loop
+cast-out-2 c = omega (arith, c .shared-slice-known .given (c .before .before .loop .k))
 
 mul-out-2 : tie.Need-mul-out-2 Inv-loop μ-loop
 mul-out-2 c = search needs
@@ -55,27 +56,27 @@ loop-less c = search needs
 
 loop-again : tie.Need-loop-again Inv-loop μ-loop
 loop-again c =
-    let s = c .before .before .before .before .loop in
-    let K : List ℕ = c .before .before .before .before .before .before .before .args .table .now in
-    let low : ℕ = c .before .low-byte .result in
-    let high : ℕ = c .high-byte .result in
+    let s = c .before .before .loop in
+    let K : List ℕ = c .before .before .before .args .table .now in
+    let low : ℕ = at K (s .k) % 256 in
+    let high : ℕ = at K (s .k) / 256 in
     let one : List ℕ = set (s .out) (2 * s .k) low in
-    let h : s .k < length K = c .before .before .before .loop-test .taken in
+    let h : s .k < length K = c .before .loop-test .taken in
     let l : length one ≡ 2 * length K = length-set (s .out) (2 * s .k) low ∙ s .inv .0 in
     let first : take (2 * s .k + 1) one ≡ take (2 * s .k + 1) (bytesOfAll K) =
-    fill-next (s .out) (bytesOfAll K) (2 * s .k) low (omega (arith, s .inv .0)) (omega (arith, length-bytes K)) (c .before .low-byte .ensures ∙ sym (low-at K (s .k) h)) (s .inv .1) in
+    fill-next (s .out) (bytesOfAll K) (2 * s .k) low (omega (arith, s .inv .0)) (omega (arith, length-bytes K)) (sym (low-at K (s .k) h)) (s .inv .1) in
     let both : take (2 * s .k + 1 + 1) (set one (2 * s .k + 1) high) ≡ take (2 * s .k + 1 + 1) (bytesOfAll K) =
-    fill-next one (bytesOfAll K) (2 * s .k + 1) high (omega arith) (omega (arith, length-bytes K)) (c .high-byte .ensures ∙ sym (high-at K (s .k) h)) first in
+    fill-next one (bytesOfAll K) (2 * s .k + 1) high (omega arith) (omega (arith, length-bytes K)) (sym (high-at K (s .k) h)) first in
     let e : 2 * s .k + 1 + 1 ≡ 2 * (s .k + 1) = omega arith in
     (length-set one (2 * s .k + 1) high ∙ l, subst (λ (n : ℕ). take n (set one (2 * s .k + 1) high) ≡ take n (bytesOfAll K)) e both)
 
 same-length : tie.Need-same-length Inv-loop μ-loop
-same-length c = c .before .loop .inv .0 ∙ sym (c .before .before .before .before .pre)
+same-length c = c .before .loop .inv .0 ∙ sym (c .before .before .pre)
 
 returns : tie.Need-returns Inv-loop μ-loop
 returns c =
     let s = c .before .loop in
-    let K : List ℕ = c .before .before .before .before .args .table .now in
+    let K : List ℕ = c .before .before .args .table .now in
     fill-done (s .out) (bytesOfAll K) (2 * s .k) (omega (arith, s .inv .0, c .loop-test .left)) (omega (arith, length-bytes K, c .loop-test .left)) (s .inv .1)
 
 pub write-symbols-spec : {M : Type 1} → statement M
@@ -87,10 +88,10 @@ write-symbols-spec =
     loop-holds
     mul-x
     shared-slice-read-x
-    low-byte-requires
+    cast-out
     mul-out
     slice-write-out
-    high-byte-requires
+    cast-out-2
     mul-out-2
     add-out
     slice-write-out-2
