@@ -7,7 +7,7 @@ use lib.ListN.{length}
 use Rattle.refusals.specs.declared.Code.{Code}
 use Rattle.refusals.specs.Codes.{code, firstOf, ifAccepted}
 use Rattle.vetting.specs.declared.Plan.{Plan}
-use Rattle.vetting.specs.Records.{planRead, tableRead, readChecks, padded}
+use Rattle.records.specs.Records.{planRead, tableRead, readChecks, padded}
 
 -- U, V, T, R and q
 abbrev pub countsOf : Plan → List ℕ

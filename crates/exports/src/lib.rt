@@ -212,7 +212,7 @@ pub extern "C" fn kortyghai_read_record(
     if counts.len() != COUNTS {
         return pack(code_of(Refusal::WrongLength));
     }
-    match vetting::read_record(bytes, table) {
+    match records::read_record(bytes, table) {
         Planned::Refused(refusal) => pack(code_of(refusal)),
         Planned::Made(plan) => {
             write_counts(plan, counts);

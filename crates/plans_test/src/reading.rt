@@ -20,8 +20,8 @@ use crate::slices::fill;
 use crate::slices::is_filled;
 use crate::slices::put_byte;
 use arithmetic::Symbol;
+use records::read_record;
 use std::num::wrapping_sub_usize;
-use vetting::read_record;
 
 // A buffer is a part of 64 drawn bytes, a record, and drawn bytes: where it starts, its length, the byte that is changed, and what is added
 // to it. `lent` is the length of the lent table.

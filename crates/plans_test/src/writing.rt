@@ -22,8 +22,8 @@ use crate::slices::is_filled_bytes;
 use crate::slices::is_padded;
 use crate::slices::put;
 use arithmetic::Symbol;
-use vetting::read_record;
-use vetting::write_record;
+use records::read_record;
+use records::write_record;
 
 // 144 shapes, 3 lengths of the table, 3 of the buffer and 4 symbols.
 pub const WRITINGS: usize = 5184;

@@ -8,7 +8,7 @@ use Rattle.refusals.specs.declared.Code.{Code}
 use Rattle.refusals.specs.Codes.{code, firstOf}
 use Rattle.matrices.specs.Linear.{zeros}
 use Rattle.reports.specs.declared.Line.{Line}
-use Rattle.vetting.specs.Records.{planRead, tableRead, readChecks}
+use Rattle.records.specs.Records.{planRead, tableRead, readChecks}
 use Rattle.vetting.specs.Verdict.{vetChecks}
 
 -- "input above 65,535 bytes is 4, before all else"; then the reader's checks, with a table of its own that is long enough, and the vet's

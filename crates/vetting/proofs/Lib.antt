@@ -20,10 +20,3 @@ pub mod MakerLaws
 pub mod Fronts
 mod RunningSum
 mod MakerSteps
-pub mod RecordLaws
-pub mod RecordChecks
-pub mod Bytes
-mod PlanSizes
-mod Fills
-mod Trailers
-mod RecordExamples

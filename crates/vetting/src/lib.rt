@@ -1,8 +1,7 @@
-// Vetting: plans, their records, the exact verdict on secrecy, the table maker and individual keys.
+// Vetting: plans, the exact verdict on secrecy, the table maker and individual keys.
 mod bounds;
 mod keys;
 mod maker;
-mod records;
 mod verdict;
 mod walk;
 
@@ -10,10 +9,8 @@ use arithmetic::Symbol;
 pub use bounds::counts_fit;
 pub use keys::derive_keys;
 pub use maker::make_table;
-pub use records::READ_TABLE;
-pub use records::read_record;
-pub use records::write_record;
 use refusals::Refusal;
+pub use verdict::check_plan;
 pub use verdict::vet;
 
 // U clusters of V users each, a coalition limit T, R source symbols a position, and a prime q. Key tables are lent beside it.

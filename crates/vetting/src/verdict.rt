@@ -17,7 +17,7 @@ use refusals::Refusal;
 use refusals::Verdict;
 
 // Checks 1, 4, 2 and 3.
-pub(crate) fn check_plan(plan: Plan, table: &[Symbol]) -> Verdict
+pub fn check_plan(plan: Plan, table: &[Symbol]) -> Verdict
     ensures { λ r. ⌜ verdictCode r ≡ firstOf (tableChecks plan (now (table .entry))) ⌝ }
 {
     if !plan.in_bounds() {

@@ -12,9 +12,9 @@ use Rattle.refusals.specs.declared.Refusal.the-variants.{WrongLength}
 use Rattle.refusals.specs.Codes.{code, codeOf, accepted, firstOf, ifAccepted}
 use Rattle.refusals.proofs.CodeLaws.{refused-keeps, accepted-takes}
 use Rattle.vetting.specs.Plans.{inBounds, noPlan, plannedCode, plannedPlan}
-use Rattle.vetting.specs.Records.{planRead, tableRead, readVerdict, padded}
+use Rattle.records.specs.Records.{planRead, tableRead, readVerdict, padded}
 use Rattle.vetting.proofs.PlanBounds.{Bounds, bounds-known}
-use Rattle.vetting.proofs.RecordChecks.{readable}
+use Rattle.records.proofs.RecordChecks.{readable}
 use Rattle.exports.specs.Packed.{packed}
 use Rattle.exports.specs.Reading.{countsOf, entryChecks}
 use Rattle.exports.proofs.kortyghai_read_record.Statement.{statement}

@@ -1,0 +1,81 @@
+-- What is known of a record that passed the reader's checks, and of a plan that passed the writer's.
+-- Each fact is looked up by what it says and not by its place, so that the order of the checks stands in their list alone.
+use Prim.Native.Nat.{ℕ, _+_, _*_, _≤_}
+use mathlib.Core.Path.{_≡_, sym, ap, ap₂, _∙_}
+use mathlib.Core.Bool.{Bool, true, false, _&&_}
+use mathlib.Core.List.{List}
+use native.Mathlib.Omega.{arith}
+use lib.Dec.{eqb, eqb→eq}
+use lib.ListN.{length}
+use borrow.Author.Tests.{not-false, eqb-true}
+use Rattle.refusals.specs.Codes.{accepted}
+use Rattle.refusals.proofs.CodeLaws.{none-holds}
+use Rattle.arithmetic.specs.Primes.{isPrime, allBelow}
+use Rattle.arithmetic.proofs.Searches.{true→T, T-and}
+use Rattle.vetting.specs.declared.Plan.{Plan}
+use Rattle.vetting.specs.Plans.{usersOf, inBounds}
+use Rattle.records.specs.Records.{wordsOf, recordSize, distance, start, badTrailer, planRead, tableRead, readChecks, readVerdict, writeChecks, writeVerdict}
+use Rattle.records.proofs.Trailers.{trailer-of}
+
+-- ---- reading
+
+pub record Readable (B out : List ℕ) : Type 0 where
+  pub trailer : badTrailer B ≡ false
+  pub bounds : inBounds (planRead B) ≡ true
+  pub size : distance B ≡ recordSize (planRead B)
+  pub lent : length out ≡ 256
+  pub prime : isPrime (planRead B .q) ≡ true
+  pub below : allBelow (planRead B .q) (tableRead B) ≡ true
+
+pub readable : (B out : List ℕ) → accepted ≡ readVerdict B out → Readable B out
+readable B out e =
+    let w = none-holds (readChecks B out) tt e in
+    let P : Plan = planRead B in
+    let sized : Bool = eqb (distance B) (recordSize P) in
+    let whole : Bool = eqb (length out) 256 in
+    let (s, l) = T-and sized whole (true→T (sized && whole) (not-false (sized && whole) (search w))) in
+    record {
+      trailer = search w;
+      bounds = not-false (inBounds P) (search w);
+      size = eqb→eq (distance B) (recordSize P) s;
+      lent = eqb→eq (length out) 256 l;
+      prime = not-false (isPrime (P .q)) (search w);
+      below = not-false (allBelow (P .q) (tableRead B)) (search w);
+    }
+
+-- the words that the plan in the bytes asks for
+module _ (B : List ℕ) (P : Plan) (n s : ℕ) (is-plan : P ≡ planRead B) (count : n ≡ usersOf P * P .rate) (first : s ≡ start B) where
+  pub read-count : n ≡ usersOf (planRead B) * planRead B .rate
+  read-count = count ∙ ap (λ (X : Plan). usersOf X * X .rate) is-plan
+
+  pub read-words : wordsOf n B (s + 6) ≡ tableRead B
+  read-words = ap₂ (λ (m i : ℕ). wordsOf m B (i + 6)) read-count first
+
+  pub read-below : (t : Bool) → t ≡ allBelow (P .q) (wordsOf n B (s + 6)) → allBelow (planRead B .q) (tableRead B) ≡ t
+  read-below t e = sym (e ∙ ap₂ (λ (X : Plan) (K : List ℕ). allBelow (X .q) K) is-plan read-words)
+
+  -- they lie in the buffer
+  pub words-inside : badTrailer B ≡ false → distance B ≡ recordSize (planRead B) → s + 6 + 2 * n ≤ length B
+  words-inside good e = omega (arith, first, read-count, e, trailer-of B good .inside)
+
+-- ---- writing
+
+pub record Writable (P : Plan) (K out : List ℕ) : Type 0 where
+  pub bounds : inBounds P ≡ true
+  pub table : length K ≡ usersOf P * P .rate
+  pub prime : isPrime (P .q) ≡ true
+  pub below : allBelow (P .q) K ≡ true
+  pub size : length out ≡ recordSize P
+
+pub writable : (P : Plan) (K out : List ℕ) → accepted ≡ writeVerdict P K out → Writable P K out
+writable P K out e =
+    let w = none-holds (writeChecks P K out) tt e in
+    let table : Bool = eqb (length K) (usersOf P * P .rate) in
+    let size : Bool = eqb (length out) (recordSize P) in
+    record {
+      bounds = not-false (inBounds P) (search w);
+      table = eqb-true (length K) (usersOf P * P .rate) (not-false table (search w));
+      prime = not-false (isPrime (P .q)) (search w);
+      below = not-false (allBelow (P .q) K) (search w);
+      size = eqb-true (length out) (recordSize P) (not-false size (search w));
+    }

@@ -1,0 +1,68 @@
+use borrow.Author.Needs.{needs}
+use borrow.Author.Tests.{eq-eqb, ne-eqb, not-true, not-false}
+use mathlib.Core.Path.{_≡_, sym, ap, _∙_}
+use mathlib.Core.Bool.{Bool, not}
+use mathlib.Core.List.{List, [], _∷_}
+use lib.Dec.{eqb}
+use lib.ListN.{length}
+use Rattle.refusals.specs.declared.Code.{Code}
+use Rattle.refusals.specs.Codes.{code, accepted, verdictCode, isAccepted, firstOf}
+use Rattle.refusals.proofs.CodeLaws.{accepted-code}
+use Rattle.refusals.proofs.Orders.{first-decides, rest-decides}
+use Rattle.vetting.specs.Verdict.{tableChecks}
+use Rattle.records.specs.Records.{recordSize, writeVerdict}
+use Rattle.vetting.proofs.VerdictLaws.{table-passed}
+use Rattle.records.proofs.check_writing.Statement.{statement}
+use Rattle.records.proofs.check_writing.Tie as tie
+
+check-plan-requires : tie.Need-check-plan-requires
+check-plan-requires c κs = search needs
+
+is-accepted-requires : tie.Need-is-accepted-requires
+is-accepted-requires c κs = search needs
+
+-- the last check
+abbrev room : tie.Start → List (Bool × Code)
+room s = (not (eqb (length (s .args .out .now)) (recordSize (s .args .plan))), code 4) ∷ []
+
+returns : tie.Need-returns
+returns c =
+    let s = c .before .before .before .before .before in
+    let e = c .before .before .check-plan .ensures in
+    e ∙ first-decides (tableChecks (s .args .plan) (s .args .table .now)) (room s) (ap isAccepted (sym e) ∙ sym (c .before .is-accepted .ensures) ∙ not-true _ (c .if1 .taken))
+
+-- the others accepted, so that it decides
+none : (c : tie.Else1) → accepted ≡ verdictCode (c .before .before .check-plan .result)
+none c = accepted-code (c .before .before .check-plan .result) (sym (c .before .is-accepted .ensures) ∙ not-false _ (c .if1 .left))
+
+told : (c : tie.Else1) → (let a = c .before .before .before .before .before .args in accepted ≡ firstOf (tableChecks (a .plan) (a .table .now)))
+told c = none c ∙ c .before .before .check-plan .ensures
+
+decides : (c : tie.Else1) → (let s = c .before .before .before .before .before in firstOf (room s) ≡ writeVerdict (s .args .plan) (s .args .table .now) (s .args .out .now))
+decides c = let s = c .before .before .before .before .before in rest-decides (tableChecks (s .args .plan) (s .args .table .now)) (room s) tt (told c)
+
+record-size-requires : tie.Need-record-size-requires
+record-size-requires c κs = let a = c .before .before .before .before .before .args in table-passed (a .plan) (a .table .now) [] tt (told c) .bounds
+
+returns-2 : tie.Need-returns-2
+returns-2 c =
+    let s = c .before .before .before .before .before .before .before in
+    let e : code 4 ≡ firstOf (room s) = simp (ne-eqb _ _ (λ e. c .if2 .taken (e ∙ sym (c .before .record-size .ensures)))) in
+    e ∙ decides (c .before .before)
+
+returns-3 : tie.Need-returns-3
+returns-3 c =
+    let s = c .before .before .before .before .before .before .before in
+    let e : accepted ≡ firstOf (room s) = simp (eq-eqb _ _ (c .if2 .left ∙ c .before .record-size .ensures)) in
+    sym (none (c .before .before)) ∙ e ∙ decides (c .before .before)
+
+pub check-writing-spec : {M : Type 1} → statement M
+check-writing-spec =
+    tie.close
+    (tie.spec
+    check-plan-requires
+    is-accepted-requires
+    returns
+    record-size-requires
+    returns-2
+    returns-3)

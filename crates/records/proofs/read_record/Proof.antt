@@ -1,0 +1,103 @@
+use borrow.Author.Needs.{needs}
+use mathlib.Core.Path.{_≡_, sym, ap, _∙_}
+use mathlib.Core.Bool.{true}
+use mathlib.Core.List.{List}
+use Prim.Native.Nat.{ℕ}
+use native.Mathlib.Omega.{arith}
+use Rattle.refusals.specs.Codes.{accepted}
+use Rattle.refusals.proofs.CodeLaws.{refused-keeps, accepted-takes}
+use Rattle.vetting.specs.Plans.{plannedCode, plannedPlan}
+use Rattle.records.specs.Records.{planRead, tableRead, readVerdict, padded}
+use Rattle.vetting.specs.Plans.{inBounds, noPlan}
+use Rattle.records.proofs.RecordChecks.{Readable, readable, read-words, words-inside}
+use Rattle.records.proofs.PlanSizes.{bounded}
+use Rattle.records.proofs.read_record.Statement.{statement}
+use Rattle.records.proofs.read_record.Tie as tie
+
+-- the checks accepted
+told : (c : tie.After-planned) → (let a = c .before .before .before .before .before .before .args in accepted ≡ readVerdict (a .bytes .now) (a .table .now))
+told c = sym (ap plannedCode (c .planned .given .1)) ∙ c .before .before .check-record .ensures .0
+
+passed : (c : tie.After-planned) → (let a = c .before .before .before .before .before .before .args in Readable (a .bytes .now) (a .table .now))
+passed c = let a = c .before .before .before .before .before .before .args in readable (a .bytes .now) (a .table .now) (told c)
+
+plan-is : (c : tie.After-planned) → c .planned .given .0 .0 ≡ planRead (c .before .before .before .before .before .before .args .bytes .now)
+plan-is c =
+    let a = c .before .before .before .before .before .before .args in
+    sym (ap plannedPlan (c .planned .given .1)) ∙ c .before .before .check-record .ensures .1
+    ∙ accepted-takes (readVerdict (a .bytes .now) (a .table .now)) (planRead (a .bytes .now)) noPlan (told c)
+
+in-range : (c : tie.After-planned) → inBounds (c .planned .given .0 .0) ≡ true
+in-range c = ap inBounds (plan-is c) ∙ passed c .bounds
+
+check-record-requires : tie.Need-check-record-requires
+check-record-requires c κs = search needs
+
+enum-known-planned : tie.Need-enum-known-planned
+enum-known-planned c = search needs
+
+start-in-requires : tie.Need-start-in-requires
+start-in-requires c κs = passed (c .before) .trailer
+
+add-fill : tie.Need-add-fill
+add-fill c = search needs
+
+symbols-requires : tie.Need-symbols-requires
+symbols-requires c κs = in-range (c .before .before)
+
+fill-requires : tie.Need-fill-requires
+fill-requires c κs =
+    let p = c .before .before .before .before in
+    let B : List ℕ = p .before .before .before .before .before .before .args .bytes .now in (
+      words-inside B (p .planned .given .0 .0) _ _ (plan-is p) (c .before .symbols .ensures) (c .before .before .start-in .ensures) (passed p .trailer) (passed p .size),
+      omega (arith, c .before .symbols .ensures, bounded (p .planned .given .0 .0) (in-range p) .symbols),
+      passed p .lent,
+    )
+
+enum-told : tie.Need-enum-told
+enum-told c = search needs
+
+same-length : tie.Need-same-length
+same-length c = search needs
+
+returns : tie.Need-returns
+returns c =
+    let p = c .before .before .before .before .before .before .before in
+    let a = p .before .before .before .before .before .before .args in
+    let B : List ℕ = a .bytes .now in
+    let out : List ℕ = a .table .now in
+    let words = read-words B (p .planned .given .0 .0) _ _ (plan-is p) (c .before .before .before .before .symbols .ensures) (c .before .before .before .before .before .start-in .ensures) in (
+      told p,
+      (
+        plan-is p ∙ sym (accepted-takes (readVerdict B out) (planRead B) noPlan (told p)),
+        c .before .before .fill .ensures ∙ ap padded words ∙ sym (accepted-takes (readVerdict B out) (padded (tableRead B)) out (told p)),
+      ),
+    )
+
+same-length-2 : tie.Need-same-length-2
+same-length-2 c = search needs
+
+returns-2 : tie.Need-returns-2
+returns-2 c =
+    let a = c .before .before .before .before .before .before .args in
+    let B : List ℕ = a .bytes .now in
+    let out : List ℕ = a .table .now in
+    let (e, plan) = c .before .before .check-record .ensures in
+    let r = c .enum-told .given .0 .0 in
+    (e, (plan, sym (refused-keeps (readVerdict B out) (padded (tableRead B)) out r (sym (ap plannedCode (c .enum-told .given .1)) ∙ e))))
+
+pub read-record-spec : {M : Type 1} → statement M
+read-record-spec =
+    tie.close
+    (tie.spec
+    check-record-requires
+    enum-known-planned
+    start-in-requires
+    add-fill
+    symbols-requires
+    fill-requires
+    enum-told
+    same-length
+    returns
+    same-length-2
+    returns-2)

@@ -1,0 +1,61 @@
+use borrow.Author.Needs.{needs}
+use mathlib.Core.Path.{_≡_, sym, ap, _∙_}
+use Rattle.refusals.specs.declared.Code.{Code}
+use Rattle.refusals.specs.Codes.{accepted, isAccepted}
+use Rattle.refusals.proofs.CodeLaws.{accepted-code, new-taken, old-kept}
+use Rattle.records.specs.Records.{writeVerdict}
+use Rattle.records.proofs.RecordChecks.{writable}
+use Rattle.records.proofs.write_record.Statement.{statement}
+use Rattle.records.proofs.write_record.Tie as tie
+
+check-writing-requires : tie.Need-check-writing-requires
+check-writing-requires c κs = search needs
+
+is-accepted-requires : tie.Need-is-accepted-requires
+is-accepted-requires c κs = search needs
+
+-- the code of the call
+abbrev code : tie.Start → Code
+code s = writeVerdict (s .args .plan) (s .args .table .now) (s .args .out .now)
+
+-- whether it accepts
+answer : (c : tie.After-is-accepted) → isAccepted (code (c .before .before .before .before .before)) ≡ c .is-accepted .result
+answer c = ap isAccepted (sym (c .before .check-writing .ensures)) ∙ sym (c .is-accepted .ensures)
+
+told : (c : tie.Then1) → accepted ≡ code (c .before .before .before .before .before .before)
+told c = accepted-code (c .before .before .check-writing .result) (sym (c .before .is-accepted .ensures) ∙ c .if1 .taken) ∙ c .before .before .check-writing .ensures
+
+write-parts-requires : tie.Need-write-parts-requires
+write-parts-requires c κs =
+    let a = c .before .before .before .before .before .before .before .args in
+    let p = writable (a .plan) (a .table .now) (a .out .now) (told (c .before)) in
+    (p .bounds, p .table, p .size)
+
+same-length : tie.Need-same-length
+same-length c = search needs
+
+returns : tie.Need-returns
+returns c =
+    let s = c .before .before .before .before .before .before .before .before .before .before in
+    let t = c .before .before .before .before in
+    (t .before .before .check-writing .ensures, c .before .before .write-parts .ensures ∙ sym (new-taken (code s) _ (s .args .out .now) (answer (t .before) ∙ t .if1 .taken)))
+
+same-length-2 : tie.Need-same-length-2
+same-length-2 c = search needs
+
+returns-2 : tie.Need-returns-2
+returns-2 c =
+    let s = c .before .before .before .before .before .before in
+    (c .before .before .check-writing .ensures, sym (old-kept (code s) _ (s .args .out .now) (answer (c .before) ∙ c .if1 .left)))
+
+pub write-record-spec : {M : Type 1} → statement M
+write-record-spec =
+    tie.close
+    (tie.spec
+    check-writing-requires
+    is-accepted-requires
+    write-parts-requires
+    same-length
+    returns
+    same-length-2
+    returns-2)
