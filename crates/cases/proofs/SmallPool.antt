@@ -16,8 +16,8 @@ use Rattle.vetting.specs.Plans.{plan, poolOf, planChecks}
 use Rattle.vetting.specs.Walk.{pairs, observers}
 use Rattle.vetting.specs.Verdict.{columnSum, verdict}
 use Rattle.vetting.specs.Walking.{clusterSum, baseTable, membersFrom, reducedBy, dependent, openMask, testedMask, firstHit}
-use Rattle.vetting.specs.Maker.{rateOf, entry, lastEntry, madeTable, makerChecks}
-use Rattle.vetting.specs.Keys.{keysOf}
+use Rattle.keys.specs.Maker.{rateOf, entry, lastEntry, madeTable, makerChecks}
+use Rattle.keys.specs.Keys.{keysOf}
 use Rattle.vetting.proofs.VerdictLaws.{walk-verdict}
 use Rattle.rounds.specs.Blocks.{uploadOf}
 use Rattle.rounds.specs.Ledger.{frame, named, bitsOf, countedAt}

@@ -4,8 +4,8 @@ ghost use Prim.Native.Nat.{_<_};
 ghost use lib.ListN.{length};
 ghost use Rattle.vetting.specs.Plans.{plan, plannedCode};
 ghost use Rattle.vetting.specs.Verdict.{verdict};
-ghost use Rattle.vetting.specs.Maker.{makerCode, makerTable};
-ghost use Rattle.vetting.specs.Keys.{keyCode, keysAfter};
+ghost use Rattle.keys.specs.Maker.{makerCode, makerTable};
+ghost use Rattle.keys.specs.Keys.{keyCode, keysAfter};
 ghost use Rattle.rounds.specs.Blocks.{blockCode, uploadAfter, unmaskAfter};
 ghost use Rattle.rounds.specs.Ledger.{frame};
 ghost use Rattle.exports.specs.Packed.{packed};
@@ -75,7 +75,7 @@ pub extern "C" fn kortyghai_make_table(
     ensures code { λ r. ⌜ r ≡ packed (makerCode clusters size limit q generator (now (table .entry))) ⌝ }
     ensures table { λ _. ⌜ now (table .exit) ≡ makerTable clusters size limit q generator (now (table .entry)) ⌝ }
 {
-    pack(planned_code(vetting::make_table(clusters, size, limit, q, generator, table)))
+    pack(planned_code(keys::make_table(clusters, size, limit, q, generator, table)))
 }
 
 // Each user's keys for `length` positions, where nothing is refused.
@@ -101,7 +101,7 @@ pub extern "C" fn kortyghai_derive_keys(
         rate,
         q,
     };
-    pack(verdict_code(vetting::derive_keys(plan, table, length, source, keys)))
+    pack(verdict_code(keys::derive_keys(plan, table, length, source, keys)))
 }
 
 // What a user sends: each reading with the key's symbol added, where nothing is refused.

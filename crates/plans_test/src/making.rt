@@ -23,9 +23,9 @@ use crate::slices::is_padded;
 use crate::slices::put;
 use arithmetic::Symbol;
 use arithmetic::is_prime;
+use keys::make_table;
 use std::num::wrapping_add_usize;
 use std::num::wrapping_sub_usize;
-use vetting::make_table;
 use vetting::vet;
 
 // U and V from 0 to 9, T from 0 to 17, 12 moduli and 6 generators.

@@ -14,9 +14,9 @@ use crate::shapes::wrong_shape;
 use crate::slices::is_padded;
 use arithmetic::Symbol;
 use arithmetic::is_prime;
+use keys::derive_keys;
+use keys::make_table;
 use vetting::Plan;
-use vetting::derive_keys;
-use vetting::make_table;
 use vetting::vet;
 
 fn new_refusal(s: Shape) -> usize {

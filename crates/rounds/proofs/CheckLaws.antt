@@ -91,16 +91,16 @@ frame-known senders known R ledger f e =
 
 -- ---- and of a giving that passed
 
-pub record Giving (senders : ℕ) (known : Bool) (R : Round) (ledger : List Frame) (out : List ℕ) : Type 0 where
+pub record Giving (senders : ℕ) (R : Round) (ledger : List Frame) (out : List ℕ) : Type 0 where
   pub good : Good senders R
-  pub full : allTo senders (λ i. hasReported senders known R ledger (suc i)) ≡ true
+  pub full : allTo senders (λ i. hasReported R ledger (suc i)) ≡ true
   pub room : length out ≡ R .length
 
-pub give-known : (senders : ℕ) (known : Bool) (R : Round) (ledger : List Frame) (out : List ℕ) → accepted ≡ firstOf (giveChecks senders known R ledger out) → Giving senders known R ledger out
+pub give-known : (senders : ℕ) (known : Bool) (R : Round) (ledger : List Frame) (out : List ℕ) → accepted ≡ firstOf (giveChecks senders known R ledger out) → Giving senders R ledger out
 give-known senders known R ledger out e =
     let w = none-holds (giveChecks senders known R ledger out) tt e .1 .1 .1 .1 .1 in
     record {
       good = good-state senders known R (first-accepts (stateChecks senders known R) (drop 5 (giveChecks senders known R ledger out)) tt e);
-      full = not-false (allTo senders (λ i. hasReported senders known R ledger (suc i))) (w .0);
+      full = not-false (allTo senders (λ i. hasReported R ledger (suc i))) (w .0);
       room = eqb-true (length out) (R .length) (not-false (eqb (length out) (R .length)) (w .1 .0));
     }

@@ -122,7 +122,7 @@ module _ (senders : ℕ) (known : Bool) (R : Round) where
   summed ledger p = cond (ltb p (R .length)) ((at (R .sums) p + countedAt ledger p) % R .q) 0
 
   -- nothing counted
-  pub after-none : Good senders R → length (R .sums) ≡ 64 → R ≡ after senders known R []
+  pub after-none : Good senders R → length (R .sums) ≡ 64 → R ≡ after R []
   unfolding bitsOf countedAt
   after-none g e = ap₂ holding (sym (add-zero (R .reported))) (sym (tab-at 64 (summed []) (R .sums) e (λ k l. go k (decLt k (R .length)))))
     where
@@ -136,7 +136,7 @@ module _ (senders : ℕ) (known : Bool) (R : Round) where
           rw (le-ltb k (R .length) (omega arith)) (sym (past-zero (R .length) (R .sums) (g .high) k (omega arith)))
 
   -- one frame after others
-  pub after-twice : (ledger : List Frame) (f : Frame) → after senders known (after senders known R ledger) (f ∷ []) ≡ after senders known R (ledger ++ (f ∷ []))
+  pub after-twice : (ledger : List Frame) (f : Frame) → after (after R ledger) (f ∷ []) ≡ after R (ledger ++ (f ∷ []))
   unfolding bitsOf countedAt
   after-twice ledger f = ap₂ holding (omega (arith, bits-more ledger f)) (tab-cong 64 _ (summed (ledger ++ (f ∷ []))) (λ k l. go k l (decLt k (R .length))))
     where
@@ -175,21 +175,21 @@ module _ (senders : ℕ) (known : Bool) (R : Round) where
       ap₂ _&&_ low high
 
   module _ (e : accepted ≡ firstOf (stateChecks senders known R)) where
-    pub after-state : (ledger : List Frame) → Sound senders R ledger → accepted ≡ firstOf (stateChecks senders known (after senders known R ledger))
+    pub after-state : (ledger : List Frame) → Sound senders R ledger → accepted ≡ firstOf (stateChecks senders known (after R ledger))
     after-state ledger sound =
         let w = none-holds (stateChecks senders known R) tt e in
         let heard = T-and known (ltb (R .reported) (2 ^ senders)) (true→T _ (not-false (known && ltb (R .reported) (2 ^ senders)) (w .1 .1 .1 .0))) in
         sym (simp (w .0, w .1 .0, w .1 .1 .0, T→true known (heard .0), lt-ltb _ _ (sound .below), after-sums (good-state senders known R e) ledger))
 
     module _ (ledger : List Frame) (sound : Sound senders R ledger) where
-      heard-same : (s : ℕ) → 1 ≤ s → hasReported senders known (after senders known R ledger) [] s ≡ hasReported senders known R ledger s
+      heard-same : (s : ℕ) → 1 ≤ s → hasReported (after R ledger) [] s ≡ hasReported R ledger s
       unfolding named
       heard-same s h = or-none (hasBit (R .reported + bitsOf ledger) (s - 1)) ∙ sound .heard s h
 
       -- a frame is answered as the ledger answers it
-      frame-same : (f : Frame) → stepCode senders known (after senders known R ledger) f ≡ firstOf (frameChecks senders known R ledger f)
+      frame-same : (f : Frame) → stepCode senders known (after R ledger) f ≡ firstOf (frameChecks senders known R ledger f)
       frame-same f =
-          sym (rest-decides (stateChecks senders known (after senders known R ledger)) (drop 5 (frameChecks senders known (after senders known R ledger) [] f)) tt (after-state ledger sound))
+          sym (rest-decides (stateChecks senders known (after R ledger)) (drop 5 (frameChecks senders known (after R ledger) [] f)) tt (after-state ledger sound))
           ∙ go (oneOf senders (f .sender)) refl
           ∙ rest-decides (stateChecks senders known R) (drop 5 (frameChecks senders known R ledger f)) tt e
         where
@@ -202,48 +202,48 @@ module _ (senders : ℕ) (known : Bool) (R : Round) where
               (cond h (code 11) accepted))))
 
           go : (t : Bool) → oneOf senders (f .sender) ≡ t
-              → rest (oneOf senders (f .sender)) (hasReported senders known (after senders known R ledger) [] (f .sender))
-              ≡ rest (oneOf senders (f .sender)) (hasReported senders known R ledger (f .sender))
+              → rest (oneOf senders (f .sender)) (hasReported (after R ledger) [] (f .sender))
+              ≡ rest (oneOf senders (f .sender)) (hasReported R ledger (f .sender))
           go true o =
               let (low, high) = T-and (leb 1 (f .sender)) (leb (f .sender) senders) (true→T (oneOf senders (f .sender)) o) in
               ap (rest (oneOf senders (f .sender))) (heard-same (f .sender) (leb→le 1 (f .sender) low))
           go false o =
-              ap (λ (t : Bool). rest t (hasReported senders known (after senders known R ledger) [] (f .sender))) o
-              ∙ sym (ap (λ (t : Bool). rest t (hasReported senders known R ledger (f .sender))) o)
+              ap (λ (t : Bool). rest t (hasReported (after R ledger) [] (f .sender))) o
+              ∙ sym (ap (λ (t : Bool). rest t (hasReported R ledger (f .sender))) o)
 
-      step-same : (f : Frame) → (stepped senders known (after senders known R ledger) f ≡ after senders known R (noted senders known R ledger f)) × Sound senders R (noted senders known R ledger f)
+      step-same : (f : Frame) → (stepped senders known (after R ledger) f ≡ after R (noted senders known R ledger f)) × Sound senders R (noted senders known R ledger f)
       step-same f = go (eqb (firstOf (frameChecks senders known R ledger f) .number) 0) refl
         where
           next : Round
-          next = after senders known (after senders known R ledger) (f ∷ [])
+          next = after (after R ledger) (f ∷ [])
 
-          first : stepped senders known (after senders known R ledger) f ≡ ifAccepted (firstOf (frameChecks senders known R ledger f)) next (after senders known R ledger)
-          first = ap (λ (c : Code). ifAccepted c next (after senders known R ledger)) (frame-same f)
+          first : stepped senders known (after R ledger) f ≡ ifAccepted (firstOf (frameChecks senders known R ledger f)) next (after R ledger)
+          first = ap (λ (c : Code). ifAccepted c next (after R ledger)) (frame-same f)
 
           go : (t : Bool) → eqb (firstOf (frameChecks senders known R ledger f) .number) 0 ≡ t
-              → (stepped senders known (after senders known R ledger) f ≡ after senders known R (noted senders known R ledger f)) × Sound senders R (noted senders known R ledger f)
+              → (stepped senders known (after R ledger) f ≡ after R (noted senders known R ledger f)) × Sound senders R (noted senders known R ledger f)
           go true n =
               let is : noted senders known R ledger f ≡ ledger ++ (f ∷ []) = ap (λ (t : Bool). cond t (ledger ++ (f ∷ [])) ledger) n in
               let p : Passed senders R ledger f = frame-known senders known R ledger f (number-zero (frameChecks senders known R ledger f) tt n) in (
-                first ∙ ap (λ (t : Bool). cond t next (after senders known R ledger)) n ∙ after-twice ledger f ∙ ap (after senders known R) (sym is),
+                first ∙ ap (λ (t : Bool). cond t next (after R ledger)) n ∙ after-twice ledger f ∙ ap (after R) (sym is),
                 subst (Sound senders R) (sym is) (sound-more senders R ledger f sound p),
               )
           go false n =
               let is : noted senders known R ledger f ≡ ledger = ap (λ (t : Bool). cond t (ledger ++ (f ∷ [])) ledger) n in (
-                first ∙ ap (λ (t : Bool). cond t next (after senders known R ledger)) n ∙ ap (after senders known R) (sym is),
+                first ∙ ap (λ (t : Bool). cond t next (after R ledger)) n ∙ ap (after R) (sym is),
                 subst (Sound senders R) (sym is) sound,
               )
 
-      give-same : (out : List ℕ) → firstOf (giveChecks senders known (after senders known R ledger) [] out) ≡ firstOf (giveChecks senders known R ledger out)
+      give-same : (out : List ℕ) → firstOf (giveChecks senders known (after R ledger) [] out) ≡ firstOf (giveChecks senders known R ledger out)
       give-same out =
-          sym (rest-decides (stateChecks senders known (after senders known R ledger)) (drop 5 (giveChecks senders known (after senders known R ledger) [] out)) tt (after-state ledger sound))
+          sym (rest-decides (stateChecks senders known (after R ledger)) (drop 5 (giveChecks senders known (after R ledger) [] out)) tt (after-state ledger sound))
           ∙ ap (λ (t : Bool). cond (not t) (code 12) (cond (not (eqb (length out) (R .length))) (code 4) accepted))
-          (all-cong senders (λ i. hasReported senders known (after senders known R ledger) [] (suc i)) (λ i. hasReported senders known R ledger (suc i)) (λ i l. heard-same (suc i) (omega arith)))
+          (all-cong senders (λ i. hasReported (after R ledger) [] (suc i)) (λ i. hasReported R ledger (suc i)) (λ i l. heard-same (suc i) (omega arith)))
           ∙ rest-decides (stateChecks senders known R) (drop 5 (giveChecks senders known R ledger out)) tt e
 
     run-same : (frames ledger : List Frame) → Sound senders R ledger
-        → (answersOf senders known (after senders known R ledger) frames ≡ ledgerAnswers senders known R ledger frames)
-        × (runOf senders known (after senders known R ledger) frames ≡ after senders known R (ledgerOf senders known R ledger frames))
+        → (answersOf senders known (after R ledger) frames ≡ ledgerAnswers senders known R ledger frames)
+        × (runOf senders known (after R ledger) frames ≡ after R (ledgerOf senders known R ledger frames))
         × Sound senders R (ledgerOf senders known R ledger frames)
     unfolding answersOf runOf ledgerAnswers ledgerOf
     run-same [] ledger sound = (refl, refl, sound)
@@ -260,7 +260,7 @@ module _ (senders : ℕ) (known : Bool) (R : Round) where
   idle n (f ∷ frames) =
       let same : firstOf (frameChecks senders known R [] f) ≡ firstOf (stateChecks senders known R) = refused-decides (stateChecks senders known R) (drop 5 (frameChecks senders known R [] f)) n in
       let no : eqb (firstOf (frameChecks senders known R [] f) .number) 0 ≡ false = ap (λ (c : Code). eqb (c .number) 0) same ∙ n in
-      let stays : stepped senders known R f ≡ R = ap (λ (t : Bool). cond t (after senders known R (f ∷ [])) R) no in
+      let stays : stepped senders known R f ≡ R = ap (λ (t : Bool). cond t (after R (f ∷ [])) R) no in
       let none : noted senders known R [] f ≡ [] = ap (λ (t : Bool). cond t (f ∷ []) []) no in
       let (a, r, l) = idle n frames in (
         ap (λ (x : List Code). stepCode senders known R f ∷ x)
@@ -272,11 +272,11 @@ module _ (senders : ℕ) (known : Bool) (R : Round) where
   -- a good state and its ledger
   pub good-run : accepted ≡ firstOf (stateChecks senders known R) → length (R .sums) ≡ 64 → (frames : List Frame)
       → (answersOf senders known R frames ≡ ledgerAnswers senders known R [] frames)
-      × (runOf senders known R frames ≡ after senders known R (ledgerOf senders known R [] frames))
+      × (runOf senders known R frames ≡ after R (ledgerOf senders known R [] frames))
       × Sound senders R (ledgerOf senders known R [] frames)
   good-run e sixty-four frames =
       let g : Good senders R = good-state senders known R e in
-      let z : R ≡ after senders known R [] = after-none g sixty-four in
+      let z : R ≡ after R [] = after-none g sixty-four in
       let (a, r, s) = run-same e frames [] (sound-none senders R g) in
       (ap (λ (X : Round). answersOf senders known X frames) z ∙ a, ap (λ (X : Round). runOf senders known X frames) z ∙ r, s)
 
@@ -285,18 +285,18 @@ module _ (senders : ℕ) (known : Bool) (R : Round) where
   module _ (sixty-four : length (R .sums) ≡ 64) (frames : List Frame) where
     -- the answers, and the round after the frames
     pub ledger-run : (answersOf senders known R frames ≡ ledgerAnswers senders known R [] frames)
-        × (runOf senders known R frames ≡ ifAccepted (firstOf (stateChecks senders known R)) (after senders known R (ledgerOf senders known R [] frames)) R)
+        × (runOf senders known R frames ≡ ifAccepted (firstOf (stateChecks senders known R)) (after R (ledgerOf senders known R [] frames)) R)
     ledger-run = go (eqb (firstOf (stateChecks senders known R) .number) 0) refl
       where
         go : (t : Bool) → eqb (firstOf (stateChecks senders known R) .number) 0 ≡ t
             → (answersOf senders known R frames ≡ ledgerAnswers senders known R [] frames)
-            × (runOf senders known R frames ≡ ifAccepted (firstOf (stateChecks senders known R)) (after senders known R (ledgerOf senders known R [] frames)) R)
+            × (runOf senders known R frames ≡ ifAccepted (firstOf (stateChecks senders known R)) (after R (ledgerOf senders known R [] frames)) R)
         go true n =
             let (a, r, s) = good-run (number-zero (stateChecks senders known R) tt n) sixty-four frames in
-            (a, r ∙ sym (ap (λ (t : Bool). cond t (after senders known R (ledgerOf senders known R [] frames)) R) n))
+            (a, r ∙ sym (ap (λ (t : Bool). cond t (after R (ledgerOf senders known R [] frames)) R) n))
         go false n =
             let (a, r, l) = idle n frames in
-            (a, r ∙ sym (ap (λ (t : Bool). cond t (after senders known R (ledgerOf senders known R [] frames)) R) n))
+            (a, r ∙ sym (ap (λ (t : Bool). cond t (after R (ledgerOf senders known R [] frames)) R) n))
 
     -- the answer when the sums are wanted after the frames
     pub ledger-give : (out : List ℕ) → firstOf (giveChecks senders known (runOf senders known R frames) [] out) ≡ firstOf (giveChecks senders known R (ledgerOf senders known R [] frames) out)

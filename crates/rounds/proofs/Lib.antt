@@ -6,6 +6,5 @@ mod ReportedLaws
 mod StepLaws
 pub mod LedgerLaws
 pub mod RoundLaws
-pub mod Equations
 pub mod Runs
 pub mod Totals

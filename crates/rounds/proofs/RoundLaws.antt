@@ -110,7 +110,7 @@ module _ (senders : ℕ) (known : Bool) (clusters size q L number : ℕ) (pass :
       ))
 
   -- nobody had reported, so that who has is who is named
-  heard-named : (ledger : List Frame) (s : ℕ) → hasReported senders known R ledger s ≡ named ledger s
+  heard-named : (ledger : List Frame) (s : ℕ) → hasReported R ledger s ≡ named ledger s
   heard-named ledger s = ap (λ (t : Bool). t || named ledger s) (no-bits (s - 1))
 
   -- what is counted now would be counted on an empty ledger
@@ -205,7 +205,7 @@ module _ (senders : ℕ) (known : Bool) (clusters size q L number : ℕ) (pass :
         ledger-give senders known R (length-zeros 64) frames out
         ∙ sym (rest-decides (stateChecks senders known R) (drop 5 (giveChecks senders known R ledger out)) tt opened-state)
         ∙ ap (λ (t : Bool). cond (not t) (code 12) (cond (not (eqb (length out) L)) (code 4) accepted))
-        (all-cong senders (λ i. hasReported senders known R ledger (suc i)) (λ i. named ledger (suc i)) (λ i l. heard-named ledger (suc i)))
+        (all-cong senders (λ i. hasReported R ledger (suc i)) (λ i. named ledger (suc i)) (λ i l. heard-named ledger (suc i)))
         ∙ turn (everyone senders known R frames) (eqb (length out) L)
       where
         turn : (a b : Bool) → cond (not a) (code 12) (cond (not b) (code 4) accepted) ≡ cond a (cond b accepted (code 4)) (code 12)

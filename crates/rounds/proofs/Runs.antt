@@ -15,11 +15,11 @@ use Rattle.rounds.specs.Rounds.{oneOf, after, stepCode, stepped, answers
 -- ---- a step keeps the plan's counts
 
 module _ (senders : ℕ) (known : Bool) (R : Round) (f : Frame) where
-  same-clusters : (t : Bool) → cond t (after senders known R (f ∷ [])) R .clusters ≡ R .clusters
+  same-clusters : (t : Bool) → cond t (after R (f ∷ [])) R .clusters ≡ R .clusters
   same-clusters true = refl
   same-clusters false = refl
 
-  same-size : (t : Bool) → cond t (after senders known R (f ∷ [])) R .size ≡ R .size
+  same-size : (t : Bool) → cond t (after R (f ∷ [])) R .size ≡ R .size
   same-size true = refl
   same-size false = refl
 

@@ -38,10 +38,10 @@ pub or-none : (b : Bool) → (b || false) ≡ b
 or-none true = refl
 or-none false = refl
 
-pub heard-bits : (senders : ℕ) (known : Bool) (R : Round) → allTo senders (hasBit (R .reported)) ≡ allTo senders (λ i. hasReported senders known R [] (suc i))
+pub heard-bits : (senders : ℕ) (R : Round) → allTo senders (hasBit (R .reported)) ≡ allTo senders (λ i. hasReported R [] (suc i))
 unfolding named
-heard-bits senders known R =
-    all-cong senders (hasBit (R .reported)) (λ i. hasReported senders known R [] (suc i))
+heard-bits senders R =
+    all-cong senders (hasBit (R .reported)) (λ i. hasReported R [] (suc i))
     (λ i l. sym (or-none (hasBit (R .reported) (suc i - 1)) ∙ ap (hasBit (R .reported)) (omega arith)))
 
 -- ---- sums that are copied
@@ -123,7 +123,7 @@ module _ (senders : ℕ) (known : Bool) (R : Round) (f : Frame) (p : Passed send
   unfolding bitsOf
   one-bit = ap (λ (z : ℕ). R .reported + z) (sym (add-zero (2 ^ (f .sender - 1))))
 
-  one-block : addedTo (R .q) (length (f .block)) (R .sums) (f .block) ≡ after senders known R (f ∷ []) .sums
+  one-block : addedTo (R .q) (length (f .block)) (R .sums) (f .block) ≡ after R (f ∷ []) .sums
   unfolding addedTo countedAt
   one-block = ap (λ (n : ℕ). addedTo (R .q) n (R .sums) (f .block)) (p .long) ∙ tab-cong 64 _ _ (λ k l. go k (decLt k (R .length)))
     where
@@ -133,5 +133,5 @@ module _ (senders : ℕ) (known : Bool) (R : Round) (f : Frame) (p : Passed send
           rw (lt-ltb k (R .length) h) (ap (λ (z : ℕ). (at (R .sums) k + z) % R .q) (sym (add-zero (at (f .block) k))))
       go k (no h) = rw (le-ltb k (R .length) (omega arith)) (past-zero (R .length) (R .sums) (p .good .high) k (omega arith))
 
-  pub counted-is : countedRound R (f .sender) (f .block) ≡ after senders known R (f ∷ [])
+  pub counted-is : countedRound R (f .sender) (f .block) ≡ after R (f ∷ [])
   counted-is = ap₂ (λ (n : ℕ) (S : List ℕ). withSums (withReported R n) S) one-bit one-block

@@ -27,12 +27,12 @@ ownChecks senders R f =
     ∷ (not (eqb (length (f .block)) (R .length)), code 4)
     ∷ (not (allBelow (R .q) (f .block)), code 3)
     ∷ (not (eqb (f .number) (R .number)), code 14)
-    ∷ (hasReported senders true R [] (f .sender), code 11)
+    ∷ (hasReported R [] (f .sender), code 11)
     ∷ []
 
 abbrev pub lentChecks : ℕ → Round → ℕ → List (Bool × Code)
 lentChecks senders R room =
-    (not (allTo senders (λ i. hasReported senders true R [] (suc i))), code 12)
+    (not (allTo senders (λ i. hasReported R [] (suc i))), code 12)
     ∷ (not (eqb room (R .length)), code 4)
     ∷ []
 

@@ -52,6 +52,25 @@ openCode clusters size q L known = firstOf (openChecks clusters size q L known)
 abbrev pub openRound : ℕ → ℕ → ℕ → ℕ → Bool → ℕ → Round
 openRound clusters size q L known number = ifAccepted (openCode clusters size q L known) (opened clusters size q L number) noRound
 
+-- ---- a round R and its ledger
+
+-- has this sender reported?
+abbrev pub hasReported : Round → List Frame → ℕ → Bool
+hasReported R ledger sender = hasBit (R .reported) (sender - 1) || named ledger sender
+
+-- what the round has become
+abbrev pub after : Round → List Frame → Round
+after R ledger =
+    record {
+      clusters = R .clusters;
+      size = R .size;
+      q = R .q;
+      length = R .length;
+      number = R .number;
+      reported = R .reported + bitsOf ledger;
+      sums = tab 64 (λ p. cond (ltb p (R .length)) ((at (R .sums) p + countedAt ledger p) % R .q) 0);
+    }
+
 -- ---- a state that is handed in: "in the order 1, 2, 9, 8, 3; a roll bit that is no sender's is 8, a sum past position L other than 0 is 3"
 
 abbrev pub sumsFit : ℕ → ℕ → List ℕ → Bool
@@ -66,25 +85,6 @@ module _ (senders : ℕ) (known : Bool) where
       ∷ (not (known && ltb (R .reported) (2 ^ senders)), code 8)
       ∷ (not (sumsFit (R .q) (R .length) (R .sums)), code 3)
       ∷ []
-
-  -- ---- a round R and its ledger
-
-  -- has this sender reported?
-  abbrev pub hasReported : Round → List Frame → ℕ → Bool
-  hasReported R ledger sender = hasBit (R .reported) (sender - 1) || named ledger sender
-
-  -- what the round has become
-  abbrev pub after : Round → List Frame → Round
-  after R ledger =
-      record {
-        clusters = R .clusters;
-        size = R .size;
-        q = R .q;
-        length = R .length;
-        number = R .number;
-        reported = R .reported + bitsOf ledger;
-        sums = tab 64 (λ p. cond (ltb p (R .length)) ((at (R .sums) p + countedAt ledger p) % R .q) 0);
-      }
 
   -- "A frame into a round: 8, 4, 3, 14, 11"
   abbrev pub frameChecks : Round → List Frame → Frame → List (Bool × Code)

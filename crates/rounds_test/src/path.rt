@@ -320,7 +320,7 @@ fn derived(
 ) -> bool {
     fill(p.q, p.x, source);
     fill(p.q, mix(p.x), readings);
-    let number = number_of(vetting::derive_keys(plan, table, p.length, source, keys));
+    let number = number_of(keys::derive_keys(plan, table, p.length, source, keys));
     if number != 0 {
         return false;
     }
@@ -351,7 +351,7 @@ fn with_keys(p: Pool, plan: Plan, table: &[Symbol]) -> bool {
 
 fn made(p: Pool, table: &mut [Symbol]) -> Seen {
     let generator = narrow(pick(p.x, 64, p.q));
-    match vetting::make_table(p.clusters, p.size, p.limit, narrow(p.q), generator, table) {
+    match keys::make_table(p.clusters, p.size, p.limit, narrow(p.q), generator, table) {
         Planned::Refused(_) => Seen::NoPlan,
         Planned::Made(plan) => {
             if with_keys(p, plan, table) {

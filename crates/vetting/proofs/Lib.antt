@@ -15,8 +15,5 @@ mod BaseRows
 mod Deciding
 pub mod ExactSecrecy
 pub mod PlanLaws
-pub mod KeyLaws
-pub mod MakerLaws
 pub mod Fronts
-mod RunningSum
-mod MakerSteps
+pub mod RunningSum

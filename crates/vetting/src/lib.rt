@@ -1,14 +1,10 @@
-// Vetting: plans, the exact verdict on secrecy, the table maker and individual keys.
+// Vetting: plans, and the exact verdict on secrecy.
 mod bounds;
-mod keys;
-mod maker;
 mod verdict;
 mod walk;
 
 use arithmetic::Symbol;
 pub use bounds::counts_fit;
-pub use keys::derive_keys;
-pub use maker::make_table;
 use refusals::Refusal;
 pub use verdict::check_plan;
 pub use verdict::vet;

@@ -13,10 +13,10 @@ use Rattle.rounds.proofs.Round.check_lent.Tie as tie
 is-full-requires : tie.Need-is-full-requires
 is-full-requires c κs = search needs
 
-full-is : (c : tie.After-is-full) → (let a = c .before .args in allTo (a .senders) (λ i. hasReported (a .senders) true (a .self) [] (suc i)) ≡ c .is-full .result)
+full-is : (c : tie.After-is-full) → (let a = c .before .args in allTo (a .senders) (λ i. hasReported (a .self) [] (suc i)) ≡ c .is-full .result)
 full-is c =
     let a = c .before .args in
-    sym (c .is-full .ensures ∙ heard-bits (a .senders) true (a .self))
+    sym (c .is-full .ensures ∙ heard-bits (a .senders) (a .self))
 
 returns : tie.Need-returns
 returns c = simp (full-is (c .before) ∙ not-true _ (c .if1 .taken))

@@ -55,7 +55,7 @@ returns-2 c =
       t .before .before .check-frame .ensures,
       c .counted .ensures
           ∙ counted-is (a .senders) (a .known) (a .self) (theFrame s) (passed t)
-          ∙ sym (accepted-takes (code s) (after (a .senders) (a .known) (a .self) (theFrame s ∷ [])) (a .self) (told t)),
+          ∙ sym (accepted-takes (code s) (after (a .self) (theFrame s ∷ [])) (a .self) (told t)),
     )
 
 pub count-spec : {M : Type 1} → statement M

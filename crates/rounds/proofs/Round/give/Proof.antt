@@ -25,7 +25,7 @@ code s = giveCode (s .args .senders) (s .args .known) (s .args .self) (s .args .
 told : (c : tie.Then1) → accepted ≡ code (c .before .before .before .before .before)
 told c = passes (c .before .before .check-give .result) (c .before .before .check-give .ensures) (c .before .is-accepted .ensures) (c .if1 .taken)
 
-passed : (c : tie.Then1) → (let a = c .before .before .before .before .before .args in Giving (a .senders) (a .known) (a .self) [] (a .out .now))
+passed : (c : tie.Then1) → (let a = c .before .before .before .before .before .args in Giving (a .senders) (a .self) [] (a .out .now))
 passed c =
     let a = c .before .before .before .before .before .args in
     give-known (a .senders) (a .known) (a .self) [] (a .out .now) (told c)

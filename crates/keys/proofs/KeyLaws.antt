@@ -1,0 +1,112 @@
+-- Individual keys: what each user's row makes, where each key stands in the derived list, and what the checks say.
+use Prim.Native.Nat.{ℕ, zero, suc, _+_, _*_, _%_, _≤_, _<_}
+use mathlib.Core.Path.{_≡_, refl, sym, ap, ap₂, _∙_, subst}
+use mathlib.Core.Logic.{⊎-elim}
+use mathlib.Core.Bool.{Bool, not, _&&_}
+use mathlib.Core.List.{List, [], _∷_, _++_}
+use native.Mathlib.Nat.{zero-mul, mul-le-mul, not-suc-le-zero, eq-or-lt-of-le, le-of-suc-le-suc}
+use native.Mathlib.Omega.{arith}
+use lib.ListN.{length, take, drop, length-append, length-drop}
+use lib.Seq.{take-all, take-append-le, drop-append-le, drop-at}
+use lib.Dec.{leb, eqb, eqb→eq}
+use borrow.Author.Tests.{not-false}
+use Rattle.refusals.specs.declared.Code.{Code}
+use Rattle.refusals.specs.Codes.{code, accepted, firstOf, ifAccepted}
+use Rattle.refusals.proofs.CodeLaws.{none-holds, accepted-takes}
+use Rattle.arithmetic.specs.Primes.{allBelow}
+use Rattle.arithmetic.proofs.Searches.{true→T, T-and}
+use Rattle.matrices.specs.Linear.{at}
+use Rattle.secrecy.specs.Counts.{sumTo}
+use Rattle.secrecy.specs.Lists.{tab, joinTo}
+use Rattle.secrecy.specs.Model.{key}
+use Rattle.secrecy.proofs.Sums.{sum-cong}
+use Rattle.secrecy.proofs.ListLaws.{at-tab, length-tab, tab-cong}
+use Rattle.vetting.specs.declared.Plan.{Plan}
+use Rattle.vetting.specs.Plans.{poolOf, usersOf}
+use Rattle.vetting.specs.Verdict.{vetChecks}
+use Rattle.keys.specs.Keys.{keysOf, keyChecks}
+use Rattle.refusals.proofs.Orders.{rest-decides, first-accepts}
+use Rattle.vetting.proofs.PlanLaws.{Vetted, vetted, vet-numbered}
+use Rattle.vetting.proofs.Fronts.{length-part, part-at}
+use Rattle.vetting.proofs.Joins.{length-join, join-part}
+
+-- ---- the derived list
+
+-- the key of user i in position p, by a table K of rows of R symbols and a source key N
+abbrev pub keySum : (q R : ℕ) (K N : List ℕ) → ℕ → ℕ → ℕ
+keySum q R K N i p = sumTo R (λ k. at K (i * R + k) * at N (p * R + k)) % q
+
+-- the keys of n users
+abbrev pub keyRows : (q n R L : ℕ) (K N : List ℕ) → List ℕ
+keyRows q n R L K N = joinTo n (λ i. tab L (keySum q R K N i))
+
+pub keys-are : (P : Plan) (K : List ℕ) (L : ℕ) (N : List ℕ) → keyRows (P .q) (usersOf P) (P .rate) L K N ≡ keysOf P K L N
+unfolding keysOf key
+keys-are P K L N = refl
+
+module _ (q n R L : ℕ) (K N : List ℕ) where
+  pub length-keys : length (keyRows q n R L K N) ≡ n * L
+  length-keys = length-join L (λ i. tab L (keySum q R K N i)) (λ i. length-tab L (keySum q R K N i)) n
+
+  -- the keys of user i
+  pub keys-part : (i : ℕ) → i < n → take L (drop (i * L) (keyRows q n R L K N)) ≡ tab L (keySum q R K N i)
+  keys-part = join-part L (λ i. tab L (keySum q R K N i)) (λ i. length-tab L (keySum q R K N i)) n
+
+  -- what user i's row alone makes of N, w symbols of K, is the part of the keys that is lent for it, v symbols of T
+  pub keys-of-row : (T : List ℕ) (i w v : ℕ) → w ≡ R → v ≡ L → i < n → i * R + R ≤ length K → i * L + L ≤ length T
+      → (let row : List ℕ = take w (drop (i * R) K) in
+      tab (length (take v (drop (i * L) T))) (λ p. sumTo (length row) (λ k. at row k * at N (p * length row + k)) % q) ≡ take v (drop (i * L) (keyRows q n R L K N)))
+  keys-of-row T i w v ew ev h k l =
+      let row : List ℕ = take w (drop (i * R) K) in
+      let size : length row ≡ R = length-part w (i * R) K (omega arith) ∙ ew in
+      let lent : length (take v (drop (i * L) T)) ≡ L = length-part v (i * L) T (omega arith) ∙ ev in
+      ap₂ (λ (m r : ℕ). tab m (λ p. sumTo r (λ k. at row k * at N (p * r + k)) % q)) lent size
+      ∙ tab-cong L _ (keySum q R K N i)
+      (λ p _.
+      ap (λ (t : ℕ). t % q)
+      (sum-cong R _ (λ k. at K (i * R + k) * at N (p * R + k)) (λ k within. ap (λ (x : ℕ). x * at N (p * R + k)) (part-at w (i * R) K k (omega arith)))))
+      ∙ sym (keys-part i h)
+      ∙ ap (λ (m : ℕ). take m (drop (i * L) (keyRows q n R L K N))) (sym ev)
+
+-- the key of user i in position p stands at index i L + p
+pub keys-at : (P : Plan) (K : List ℕ) (L : ℕ) (N : List ℕ) (i p : ℕ) → i < usersOf P → p < L → at (keysOf P K L N) (i * L + p) ≡ key (poolOf P K) N i p
+unfolding keysOf key
+keys-at P K L N i p h l =
+    sym (part-at L (i * L) (keysOf P K L N) p l)
+    ∙ ap (λ (x : List ℕ). at x p) (keys-part (P .q) (usersOf P) (P .rate) L K N i h)
+    ∙ at-tab L (keySum (P .q) (P .rate) K N i) p l
+
+-- ---- the checks
+
+-- those after the vet's
+abbrev pub blockChecks : Plan → ℕ → List ℕ → List ℕ → List (Bool × Code)
+blockChecks P L N out =
+    (not (leb 1 L && leb L 64), code 9)
+    ∷ (not (eqb (length N) (L * P .rate) && eqb (length out) (usersOf P * L)), code 4)
+    ∷ (not (allBelow (P .q) N), code 3)
+    ∷ []
+
+module _ (P : Plan) (K : List ℕ) (L : ℕ) (N out : List ℕ) where
+  -- they decide where the vet accepts
+  pub blocks-decide : accepted ≡ firstOf (vetChecks P K) → firstOf (blockChecks P L N out) ≡ firstOf (keyChecks P K L N out)
+  blocks-decide = rest-decides (vetChecks P K) (blockChecks P L N out) (vet-numbered P K)
+
+  -- what holds where all accept
+  pub record Derivable : Type 0 where
+    pub plan : Vetted P K
+    pub source : length N ≡ L * P .rate
+    pub room : length out ≡ usersOf P * L
+
+  pub derivable : accepted ≡ firstOf (keyChecks P K L N out) → Derivable
+  derivable e =
+      let v : accepted ≡ firstOf (vetChecks P K) = first-accepts (vetChecks P K) (blockChecks P L N out) (vet-numbered P K) e in
+      let w = none-holds (blockChecks P L N out) tt (e ∙ sym (blocks-decide v)) in
+      let (source, room) = T-and (eqb (length N) (L * P .rate)) (eqb (length out) (usersOf P * L)) (true→T (eqb (length N) (L * P .rate) && eqb (length out) (usersOf P * L)) (not-false (eqb (length N) (L * P .rate) && eqb (length out) (usersOf P * L)) (w .1 .0))) in
+      record { plan = vetted P K v; source = eqb→eq (length N) (L * P .rate) source; room = eqb→eq (length out) (usersOf P * L) room }
+
+  -- after an acceptance the key of user i in position p stands at index i L + p of what the call leaves
+  pub derived-key : accepted ≡ firstOf (keyChecks P K L N out) → (i p : ℕ) → i < usersOf P → p < L
+      → at (ifAccepted (firstOf (keyChecks P K L N out)) (keysOf P K L N) out) (i * L + p) ≡ key (poolOf P K) N i p
+  derived-key e i p h l =
+      ap (λ (x : List ℕ). at x (i * L + p)) (accepted-takes (firstOf (keyChecks P K L N out)) (keysOf P K L N) out e)
+      ∙ keys-at P K L N i p h l

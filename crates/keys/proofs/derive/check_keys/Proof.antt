@@ -1,0 +1,124 @@
+use borrow.Author.Needs.{needs}
+use borrow.Author.Tests.{ltb-true, ltb-false, le-leb, lt-leb, eq-eqb, ne-eqb, not-true, not-false}
+use mathlib.Core.Logic.{⊎-elim}
+use mathlib.Core.Path.{_≡_, sym, ap, _∙_}
+use mathlib.Core.Bool.{Bool, true, _&&_}
+use Prim.Native.Nat.{ℕ, _*_, _≤_}
+use lib.Dec.{leb, eqb}
+use lib.ListN.{length}
+use native.Mathlib.Nat.{mul-le-mul}
+use native.Mathlib.Omega.{arith}
+use Rattle.refusals.specs.declared.Code.{Code}
+use Rattle.refusals.specs.Codes.{accepted, isAccepted, firstOf}
+use Rattle.vetting.specs.Plans.{usersOf}
+use Rattle.vetting.specs.Verdict.{vetChecks}
+use Rattle.keys.specs.Keys.{keyChecks}
+use Rattle.refusals.proofs.CodeLaws.{accepted-code}
+use Rattle.refusals.proofs.Orders.{first-decides}
+use Rattle.vetting.proofs.PlanLaws.{Vetted, vetted}
+use Rattle.keys.proofs.KeyLaws.{blockChecks, blocks-decide}
+use Rattle.keys.proofs.derive.check_keys.Statement.{statement}
+use Rattle.keys.proofs.derive.check_keys.Tie as tie
+
+vet-requires : tie.Need-vet-requires
+vet-requires c κs = search needs
+
+is-accepted-requires : tie.Need-is-accepted-requires
+is-accepted-requires c κs = search needs
+
+returns : tie.Need-returns
+returns c =
+    let a = c .before .before .before .before .before .before .args in
+    let e = c .before .before .vet .ensures in
+    e
+    ∙ first-decides (vetChecks (a .plan) (a .table .now)) (blockChecks (a .plan) (a .length) (a .source .now) (a .keys .now))
+    (ap isAccepted (sym e) ∙ sym (c .before .is-accepted .ensures) ∙ not-true _ (c .if1 .taken))
+
+-- the vet accepted
+told : (c : tie.Else1) → (let a = c .before .before .before .before .before .before .args in accepted ≡ firstOf (vetChecks (a .plan) (a .table .now)))
+told c = accepted-code (c .before .before .vet .result) (sym (c .before .is-accepted .ensures) ∙ not-false _ (c .if1 .left)) ∙ c .before .before .vet .ensures
+
+known : (c : tie.Else1) → (let a = c .before .before .before .before .before .before .args in Vetted (a .plan) (a .table .now))
+known c = let a = c .before .before .before .before .before .before .args in vetted (a .plan) (a .table .now) (told c)
+
+-- what the other checks find is what all find
+blocks : tie.Start → Code
+blocks s = firstOf (blockChecks (s .args .plan) (s .args .length) (s .args .source .now) (s .args .keys .now))
+
+decide : (c : tie.Else1) {d : Code} → d ≡ blocks (c .before .before .before .before .before .before) → (let a = c .before .before .before .before .before .before .args in d ≡ firstOf (keyChecks (a .plan) (a .table .now) (a .length) (a .source .now) (a .keys .now)))
+unfolding blocks
+decide c e = let a = c .before .before .before .before .before .before .args in e ∙ blocks-decide (a .plan) (a .table .now) (a .length) (a .source .now) (a .keys .now) (told c)
+
+returns-2 : tie.Need-returns-2
+unfolding blocks
+returns-2 c =
+    let L : ℕ = c .before .before .before .before .before .before .before .args .length in
+    decide (c .before)
+    (⊎-elim (λ w. simp (lt-leb 1 L (w .taken))) (λ w. simp (le-leb 1 L (w .0 .left), lt-leb L 64 (ltb-true 64 L (w .1 .taken)))) (c .if2 .came))
+
+-- the length and the two blocks are good
+short : (c : tie.Else3) → c .before .before .before .before .before .before .before .before .args .length ≤ 64
+short c = ltb-false 64 _ (c .if3 .left)
+
+fits : (c : tie.Else3) → (let L : ℕ = c .before .before .before .before .before .before .before .before .args .length in (leb 1 L && leb L 64) ≡ true)
+fits c = simp (le-leb _ _ (c .before .if2 .left), le-leb _ _ (short c))
+
+abbrev wholeSource : tie.Start → Bool
+wholeSource s = eqb (length (s .args .source .now)) (s .args .length * s .args .plan .rate)
+
+abbrev wholeKeys : tie.Start → Bool
+wholeKeys s = eqb (length (s .args .keys .now)) (usersOf (s .args .plan) * s .args .length)
+
+whole : (c : tie.Else5) → (let s = c .before .before .before .before .before .before .before .before .before .before .before .before in (wholeSource s && wholeKeys s) ≡ true)
+whole c = simp (eq-eqb _ _ (c .before .before .if4 .left), not-false (wholeKeys (c .before .before .before .before .before .before .before .before .before .before .before .before)) (c .if5 .left))
+
+mul-if4 : tie.Need-mul-if4
+mul-if4 c =
+    let a = c .before .before .before .before .before .before .before .before .before .args in
+    omega (arith, mul-le-mul {n₁ = a .length} {m₁ = a .plan .rate} {n₂ = 64} {m₂ = 16} (short (c .before)) (known (c .before .before .before) .bounds .few-symbols))
+
+mul-if5 : tie.Need-mul-if5
+mul-if5 c = omega (arith, known (c .before .before .before .before .before) .bounds .counts .few-users)
+
+mul-if5-2 : tie.Need-mul-if5-2
+mul-if5-2 c =
+    let a = c .before .before .before .before .before .before .before .before .before .before .before .args in
+    omega (arith, mul-le-mul {n₁ = usersOf (a .plan)} {m₁ = a .length} {n₂ = 16} {m₂ = 64} (known (c .before .before .before .before .before) .bounds .counts .few-users) (short (c .before .before .before)))
+
+returns-3 : tie.Need-returns-3
+unfolding blocks
+returns-3 c =
+    let s = c .before .before .before .before .before .before .before .before .before .before in
+    decide (c .before .before .before .before)
+    (⊎-elim (λ w. simp (fits (c .before .before), ne-eqb _ _ (w .taken))) (λ w. simp (fits (c .before .before), eq-eqb _ _ (w .0 .left), not-true (wholeKeys s) (w .2 .taken))) (c .if4 .came))
+
+all-below-requires : tie.Need-all-below-requires
+all-below-requires c κs = search needs
+
+returns-4 : tie.Need-returns-4
+unfolding blocks
+returns-4 c =
+    decide (c .before .before .before .before .before .before .before .before)
+    (simp (fits (c .before .before .before .before .before .before), whole (c .before .before), sym (c .before .all-below .ensures) ∙ not-true _ (c .if6 .taken)))
+
+returns-5 : tie.Need-returns-5
+unfolding blocks
+returns-5 c =
+    decide (c .before .before .before .before .before .before .before .before)
+    (simp (fits (c .before .before .before .before .before .before), whole (c .before .before), sym (c .before .all-below .ensures) ∙ not-false _ (c .if6 .left)))
+
+pub check-keys-spec : {M : Type 1} → statement M
+check-keys-spec =
+    tie.close
+    (tie.spec
+    vet-requires
+    is-accepted-requires
+    returns
+    returns-2
+    mul-if4
+    mul-if5
+    mul-if5-2
+    returns-3
+    all-below-requires
+    returns-4
+    returns-5)

@@ -1,0 +1,62 @@
+use borrow.Author.Needs.{needs}
+use mathlib.Core.Path.{_≡_, sym, ap, _∙_}
+use Rattle.refusals.specs.declared.Code.{Code}
+use Rattle.refusals.specs.Codes.{accepted, isAccepted}
+use Rattle.refusals.proofs.CodeLaws.{accepted-code, new-taken, old-kept}
+use Rattle.arithmetic.proofs.PrimeLaws.{prime-pos}
+use Rattle.keys.specs.Keys.{keyCode}
+use Rattle.keys.proofs.KeyLaws.{derivable}
+use Rattle.keys.proofs.derive.derive_keys.Statement.{statement}
+use Rattle.keys.proofs.derive.derive_keys.Tie as tie
+
+check-keys-requires : tie.Need-check-keys-requires
+check-keys-requires c κs = search needs
+
+is-accepted-requires : tie.Need-is-accepted-requires
+is-accepted-requires c κs = search needs
+
+-- the code of the call
+abbrev code : tie.Start → Code
+code s = keyCode (s .args .plan) (s .args .table .now) (s .args .length) (s .args .source .now) (s .args .keys .now)
+
+-- whether it accepts
+answer : (c : tie.After-is-accepted) → isAccepted (code (c .before .before .before .before .before .before)) ≡ c .is-accepted .result
+answer c = ap isAccepted (sym (c .before .check-keys .ensures)) ∙ sym (c .is-accepted .ensures)
+
+told : (c : tie.Then1) → accepted ≡ code (c .before .before .before .before .before .before .before)
+told c = accepted-code (c .before .before .check-keys .result) (sym (c .before .is-accepted .ensures) ∙ c .if1 .taken) ∙ c .before .before .check-keys .ensures
+
+write-keys-requires : tie.Need-write-keys-requires
+write-keys-requires c κs =
+    let a = c .before .before .before .before .before .before .before .before .args in
+    let d = derivable (a .plan) (a .table .now) (a .length) (a .source .now) (a .keys .now) (told (c .before)) in
+    (prime-pos (d .plan .prime), d .plan .bounds .counts .few-users, d .plan .size, d .source, d .room)
+
+same-length : tie.Need-same-length
+same-length c = search needs
+
+returns : tie.Need-returns
+returns c =
+    let s = c .before .before .before .before .before .before .before .before .before .before .before in
+    let t = c .before .before .before .before in
+    (t .before .before .check-keys .ensures, c .before .before .write-keys .ensures ∙ sym (new-taken (code s) _ (s .args .keys .now) (answer (t .before) ∙ t .if1 .taken)))
+
+same-length-2 : tie.Need-same-length-2
+same-length-2 c = search needs
+
+returns-2 : tie.Need-returns-2
+returns-2 c =
+    let s = c .before .before .before .before .before .before .before in
+    (c .before .before .check-keys .ensures, sym (old-kept (code s) _ (s .args .keys .now) (answer (c .before) ∙ c .if1 .left)))
+
+pub derive-keys-spec : {M : Type 1} → statement M
+derive-keys-spec =
+    tie.close
+    (tie.spec
+    check-keys-requires
+    is-accepted-requires
+    write-keys-requires
+    same-length
+    returns
+    same-length-2
+    returns-2)

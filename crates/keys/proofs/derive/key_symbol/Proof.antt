@@ -1,0 +1,72 @@
+-- The invariant: the symbol held is the sum of the products so far, modulo q.
+use borrow.Author.Needs.{needs}
+use mathlib.Core.Path.{_≡_, refl, ap, _∙_}
+use Prim.Native.Nat.{ℕ, _-_, _*_, _%_, _≤_}
+use native.Mathlib.Omega.{arith}
+use lib.ListN.{length}
+use Rattle.matrices.specs.Linear.{at}
+use Rattle.secrecy.specs.Counts.{sumTo}
+use Rattle.vetting.proofs.RunningSum.{kept-none, kept-next}
+use Rattle.keys.proofs.derive.key_symbol.Statement.{statement}
+use Rattle.keys.proofs.derive.key_symbol.Tie as tie
+
+abbrev Inv-loop : tie.InvT-loop
+Inv-loop q row symbols sum₀ k₀ sum k = (k ≤ length row) × (sum ≡ sumTo k (λ j. at row j * at symbols j) % q)
+
+abbrev μ-loop : tie.MeasureT-loop
+μ-loop q row symbols sum₀ k₀ sum k = length row - k
+
+loop-holds : tie.Need-loop-holds Inv-loop μ-loop
+loop-holds c = (omega arith, kept-none _ _)
+
+mul-mul-add-mod : tie.Need-mul-mul-add-mod Inv-loop μ-loop
+mul-mul-add-mod c = search needs
+
+shared-slice-read-mul-add-mod : tie.Need-shared-slice-read-mul-add-mod Inv-loop μ-loop
+shared-slice-read-mul-add-mod c = search needs
+
+mul-mul-add-mod-2 : tie.Need-mul-mul-add-mod-2 Inv-loop μ-loop
+mul-mul-add-mod-2 c = search needs
+
+shared-slice-read-mul-add-mod-2 : tie.Need-shared-slice-read-mul-add-mod-2 Inv-loop μ-loop
+shared-slice-read-mul-add-mod-2 c = search needs
+
+mul-add-mod-requires : tie.Need-mul-add-mod-requires Inv-loop μ-loop
+mul-add-mod-requires c κs = search needs
+
+add-k : tie.Need-add-k Inv-loop μ-loop
+add-k c = search needs
+
+loop-less : tie.Need-loop-less Inv-loop μ-loop
+loop-less c = search needs
+
+loop-again : tie.Need-loop-again Inv-loop μ-loop
+loop-again c =
+    let s = c .before .before .before .before .loop in
+    let a = c .before .before .before .before .before .before .before .args in
+    let f : ℕ → ℕ = λ j. at (a .row .now) j * at (a .symbols .now) j in
+    (omega arith, c .mul-add-mod .ensures ∙ kept-next (a .q) f (s .k) (s .sum) _ (c .before .before .before .before .before .before .before .pre .0) (s .inv .1) refl)
+
+returns : tie.Need-returns Inv-loop μ-loop
+returns c =
+    let s = c .before .loop in
+    let a = c .before .before .before .before .args in
+    let e : s .k ≡ length (a .row .now) = omega arith in
+    s .inv .1 ∙ ap (λ (n : ℕ). sumTo n (λ j. at (a .row .now) j * at (a .symbols .now) j) % a .q) e
+
+pub key-symbol-spec : {M : Type 1} → statement M
+key-symbol-spec =
+    tie.close
+    (tie.spec
+    Inv-loop
+    μ-loop
+    loop-holds
+    mul-mul-add-mod
+    shared-slice-read-mul-add-mod
+    mul-mul-add-mod-2
+    shared-slice-read-mul-add-mod-2
+    mul-add-mod-requires
+    add-k
+    loop-less
+    loop-again
+    returns)

@@ -1,0 +1,114 @@
+-- The invariant: the keys written are those of the positions passed.
+use borrow.Author.Needs.{needs}
+use mathlib.Core.Path.{refl, sym, ap, _∙_}
+use mathlib.Core.List.{List}
+use Prim.Native.Nat.{ℕ, _+_, _-_, _*_, _%_, _≤_}
+use native.Mathlib.Omega.{arith}
+use lib.ListN.{length, length-set}
+use Rattle.matrices.specs.Linear.{at}
+use Rattle.secrecy.specs.Counts.{sumTo}
+use Rattle.secrecy.specs.Lists.{tab}
+use Rattle.secrecy.proofs.Sums.{sum-cong}
+use Rattle.secrecy.proofs.ListLaws.{at-tab, length-tab}
+use Rattle.vetting.proofs.Fronts.{Front, front-none, front-next, front-whole, row-fits, length-part, part-at}
+use Rattle.keys.proofs.derive.user_keys.Statement.{statement}
+use Rattle.keys.proofs.derive.user_keys.Tie as tie
+
+-- the key of a position
+abbrev products : ℕ → List ℕ → List ℕ → ℕ → ℕ
+products q row source p = sumTo (length row) (λ k. at row k * at source (p * length row + k)) % q
+
+abbrev Inv-loop : tie.InvT-loop
+Inv-loop q row source keys₀ rate p₀ keys p = Front keys₀ (tab (length keys₀) (products q row source)) keys p
+
+abbrev μ-loop : tie.MeasureT-loop
+μ-loop q row source keys₀ rate p₀ keys p = length keys - p
+
+loop-holds : tie.Need-loop-holds Inv-loop μ-loop
+loop-holds c = front-none _ _ 0 refl (length-tab _ _)
+
+-- the position's symbols lie in the source key
+fits : (c : tie.In-loop Inv-loop μ-loop) → (let a = c .before .before .before .before .before .args in c .before .loop .p * length (a .row .now) + length (a .row .now) ≤ length (a .source .now))
+fits c =
+    let s = c .before .loop in
+    let a = c .before .before .before .before .before .args in
+    row-fits (length (a .keys .now)) (length (a .row .now)) (s .p) (length (a .source .now)) (omega (arith, c .loop-test .taken, s .inv .whole)) (c .before .before .before .before .before .pre .1)
+
+mul-a : tie.Need-mul-a Inv-loop μ-loop
+mul-a c = omega (arith, fits c)
+
+add-d : tie.Need-add-d Inv-loop μ-loop
+add-d c = omega (arith, fits c)
+
+mul-key-symbol : tie.Need-mul-key-symbol Inv-loop μ-loop
+mul-key-symbol c = omega (arith, fits c)
+
+sub-key-symbol : tie.Need-sub-key-symbol Inv-loop μ-loop
+sub-key-symbol c = omega arith
+
+part-key-symbol-start : tie.Need-part-key-symbol-start Inv-loop μ-loop
+part-key-symbol-start c = omega arith
+
+part-key-symbol-end : tie.Need-part-key-symbol-end Inv-loop μ-loop
+part-key-symbol-end c = fits c
+
+key-symbol-requires : tie.Need-key-symbol-requires Inv-loop μ-loop
+key-symbol-requires c κs =
+    let s = c .before .before .loop in
+    let a = c .before .before .before .before .before .before .args in
+    let b : ℕ = s .p * length (a .row .now) in
+    (c .before .before .before .before .before .before .pre .0, sym (length-part (b + length (a .row .now) - b) b (a .source .now) (omega (arith, fits (c .before))) ∙ omega arith))
+
+mul-keys : tie.Need-mul-keys Inv-loop μ-loop
+mul-keys c = search needs
+
+slice-write-keys : tie.Need-slice-write-keys Inv-loop μ-loop
+slice-write-keys c = search needs
+
+add-p : tie.Need-add-p Inv-loop μ-loop
+add-p c = search needs
+
+loop-less : tie.Need-loop-less Inv-loop μ-loop
+loop-less c =
+    let s = c .before .before .before .loop in
+    omega (arith, length-set (s .keys) (s .p) (c .key-symbol .result), c .before .before .loop-test .taken)
+
+loop-again : tie.Need-loop-again Inv-loop μ-loop
+loop-again c =
+    let s = c .before .before .before .loop in
+    let a = c .before .before .before .before .before .before .before .args in
+    let n : ℕ = length (a .keys .now) in
+    let b : ℕ = s .p * length (a .row .now) in
+    let f = products (a .q) (a .row .now) (a .source .now) in
+    front-next _ (tab n f) (s .keys) (s .p) (c .key-symbol .result) (s .inv) (c .before .before .loop-test .taken)
+    (c .key-symbol .ensures
+    ∙ ap (λ (t : ℕ). t % a .q) (sum-cong (length (a .row .now)) _ _ (λ k l. ap (λ (x : ℕ). at (a .row .now) k * x) (part-at (b + length (a .row .now) - b) b (a .source .now) k (omega arith))))
+    ∙ sym (at-tab n f (s .p) (omega (arith, c .before .before .loop-test .taken, s .inv .whole))))
+
+same-length : tie.Need-same-length Inv-loop μ-loop
+same-length c = c .before .loop .inv .whole
+
+returns : tie.Need-returns Inv-loop μ-loop
+returns c = front-whole _ _ _ (c .before .loop .p) (c .before .loop .inv) (c .loop-test .left)
+
+pub user-keys-spec : {M : Type 1} → statement M
+user-keys-spec =
+    tie.close
+    (tie.spec
+    Inv-loop
+    μ-loop
+    loop-holds
+    mul-a
+    add-d
+    mul-key-symbol
+    sub-key-symbol
+    part-key-symbol-start
+    part-key-symbol-end
+    key-symbol-requires
+    mul-keys
+    slice-write-keys
+    add-p
+    loop-less
+    loop-again
+    same-length
+    returns)

@@ -1,0 +1,90 @@
+use borrow.Author.Needs.{needs}
+use borrow.Author.Tests.{eq-eqb}
+use mathlib.Core.Path.{_≡_, sym, ap, _∙_}
+use mathlib.Core.Bool.{Bool, cond}
+use mathlib.Core.List.{List, map}
+use Prim.Native.Nat.{ℕ}
+use lib.Dec.{eqb}
+use lib.ListN.{length}
+use Rattle.refusals.specs.declared.Code.{Code}
+use Rattle.refusals.specs.Codes.{verdictCode, firstOf}
+use Rattle.refusals.proofs.CodeLaws.{new-taken, old-kept}
+use Rattle.arithmetic.proofs.PrimeLaws.{true-prime}
+use Rattle.vetting.specs.Walk.{pairs}
+use Rattle.vetting.specs.Verdict.{leakCheck, verdict}
+use Rattle.keys.specs.Maker.{madeTable}
+use Rattle.vetting.proofs.PlanLaws.{bounds-known}
+use Rattle.keys.proofs.MakerLaws.{made-verdict}
+use Rattle.keys.proofs.maker.write_vetted.Statement.{statement}
+use Rattle.keys.proofs.maker.write_vetted.Tie as tie
+
+-- as many symbols are copied as there is room for
+copied-whole : (from to after : List ℕ) → after ≡ cond (eqb (length from) (length to)) from to → length from ≡ length to → after ≡ from
+copied-whole from to after e h = e ∙ ap (λ (t : Bool). cond t from to) (eq-eqb (length from) (length to) h)
+
+fill-table-requires : tie.Need-fill-table-requires
+fill-table-requires c κs = search needs
+
+vet-requires : tie.Need-vet-requires
+vet-requires c κs = search needs
+
+is-accepted-requires : tie.Need-is-accepted-requires
+is-accepted-requires c κs = search needs
+
+copy-requires : tie.Need-copy-requires
+copy-requires c κs = search needs
+
+same-length : tie.Need-same-length
+same-length c = search needs
+
+-- the table of the plan
+abbrev made : tie.Start → List ℕ
+made s = let P = s .args .plan in madeTable (P .clusters) (P .size) (P .limit) (P .q) (s .args .generator)
+
+-- what the vet finds of the table that was built is what the walk finds
+abbrev walk : tie.Start → Code
+walk s = let P = s .args .plan in firstOf (map (leakCheck P (made s)) (pairs (P .clusters) (P .size) (P .limit)))
+
+found : (c : tie.After-vet) → verdictCode (c .vet .result) ≡ walk (c .before .before .before .before .before .before .before .before)
+found c =
+    let s = c .before .before .before .before .before .before .before .before in
+    let P = s .args .plan in
+    c .vet .ensures
+    ∙ ap (verdict P) (c .before .before .before .before .fill-table .ensures)
+    ∙ made-verdict P (s .args .generator) (bounds-known P (s .pre .0)) (true-prime (P .q) (s .pre .1)) (s .pre .2) (s .pre .0)
+
+same-length-2 : tie.Need-same-length-2
+same-length-2 c = search needs
+
+returns : tie.Need-returns
+returns c =
+    let v = c .before .before .before .before .before .before .before in
+    let s = v .before .before .before .before .before .before .before .before in
+    let built : List ℕ = v .before .before .before .before .fill-table .last .1 .1 .0 in
+    let lent : List ℕ = s .args .table .now in
+    let copied = copied-whole built lent _ (c .before .before .copy .ensures) (search needs) in
+    let accepts = sym (c .before .before .before .before .before .before .is-accepted .ensures) ∙ c .before .before .before .before .before .if1 .taken in
+    (found v, copied ∙ v .before .before .before .before .fill-table .ensures ∙ sym (new-taken (verdictCode (v .vet .result)) (made s) lent accepts))
+
+same-length-3 : tie.Need-same-length-3
+same-length-3 c = search needs
+
+returns-2 : tie.Need-returns-2
+returns-2 c =
+    let v = c .before .before in
+    let s = v .before .before .before .before .before .before .before .before in
+    (found v, sym (old-kept (verdictCode (v .vet .result)) (made s) (s .args .table .now) (sym (c .before .is-accepted .ensures) ∙ c .if1 .left)))
+
+pub write-vetted-spec : {M : Type 1} → statement M
+write-vetted-spec =
+    tie.close
+    (tie.spec
+    fill-table-requires
+    vet-requires
+    is-accepted-requires
+    copy-requires
+    same-length
+    same-length-2
+    returns
+    same-length-3
+    returns-2)

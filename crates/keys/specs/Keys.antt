@@ -1,0 +1,34 @@
+-- Individual keys (document 01: dealt keys). "Dealing: the vet's, then 9, 4 for any block, 3."
+use Prim.Native.Nat.{ℕ, _*_}
+use mathlib.Core.Bool.{Bool, not, _&&_}
+use mathlib.Core.List.{List, [], _∷_, _++_}
+use lib.Dec.{leb, eqb}
+use lib.ListN.{length}
+use Rattle.refusals.specs.declared.Code.{Code}
+use Rattle.refusals.specs.Codes.{code, firstOf, ifAccepted}
+use Rattle.arithmetic.specs.Primes.{allBelow}
+use Rattle.secrecy.specs.Lists.{tab, joinTo}
+use Rattle.secrecy.specs.Model.{key}
+use Rattle.vetting.specs.declared.Plan.{Plan}
+use Rattle.vetting.specs.Plans.{poolOf, usersOf}
+use Rattle.vetting.specs.Verdict.{vetChecks}
+
+-- user by user, L symbols each
+unfoldable pub keysOf : Plan → List ℕ → ℕ → List ℕ → List ℕ
+keysOf P K L N = joinTo (usersOf P) (λ i. tab L (key (poolOf P K) N i))
+
+-- the source key has L × R symbols, and the lent keys are U × V × L symbols
+abbrev pub keyChecks : Plan → List ℕ → ℕ → List ℕ → List ℕ → List (Bool × Code)
+keyChecks P K L N out =
+    vetChecks P K
+    ++ (not (leb 1 L && leb L 64), code 9)
+    ∷ (not (eqb (length N) (L * P .rate) && eqb (length out) (usersOf P * L)), code 4)
+    ∷ (not (allBelow (P .q) N), code 3)
+    ∷ []
+
+abbrev pub keyCode : Plan → List ℕ → ℕ → List ℕ → List ℕ → Code
+keyCode P K L N out = firstOf (keyChecks P K L N out)
+
+-- what the lent keys hold after the call
+abbrev pub keysAfter : Plan → List ℕ → ℕ → List ℕ → List ℕ → List ℕ
+keysAfter P K L N out = ifAccepted (keyCode P K L N out) (keysOf P K L N) out

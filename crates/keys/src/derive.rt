@@ -1,0 +1,113 @@
+// Individual keys: each user's symbols, from its row of the key table and a source key.
+ghost use mathlib.Core.Path.{_≡_};
+ghost use Prim.Native.Nat.{_+_, _*_, _%_, _<_, _≤_};
+ghost use lib.ListN.{length};
+ghost use Rattle.refusals.specs.Codes.{verdictCode};
+ghost use Rattle.matrices.specs.Linear.{at};
+ghost use Rattle.secrecy.specs.Counts.{sumTo};
+ghost use Rattle.secrecy.specs.Lists.{tab};
+ghost use Rattle.vetting.specs.Plans.{usersOf};
+ghost use Rattle.keys.specs.Keys.{keysOf, keyCode, keysAfter};
+use arithmetic::Symbol;
+use refusals::Refusal;
+use refusals::Verdict;
+use vetting::Plan;
+use vetting::vet;
+
+// The products of a row with the source symbols of one position, from the first to the last; the sum so far is kept modulo q.
+fn key_symbol(q: Symbol, row: &[Symbol], symbols: &[Symbol]) -> Symbol
+    requires { ⌜ (0 < q) × (length (now row) ≡ length (now symbols)) ⌝ }
+    ensures { λ r. ⌜ r ≡ sumTo (length (now (row .entry))) (λ k. at (now (row .entry)) k * at (now (symbols .entry)) k) % q ⌝ }
+{
+    let mut sum: Symbol = 0;
+    let mut k = 0;
+    while k < row.len() {
+        sum = arithmetic::mul_add_mod(q, sum, row[k], symbols[k]);
+        k += 1;
+    }
+    sum
+}
+
+// The keys of the user with this row, position by position.
+fn user_keys(q: Symbol, row: &[Symbol], source: &[Symbol], keys: &mut [Symbol])
+    requires { ⌜ (0 < q) × (length (now source) ≡ length (now keys) * length (now row)) ⌝ }
+    ensures { λ _. ⌜ now (keys .exit) ≡ tab (length (now (keys .entry))) (λ p. sumTo (length (now (row .entry))) (λ k. at (now (row .entry)) k * at (now (source .entry)) (p * length (now (row .entry)) + k)) % q) ⌝ }
+{
+    let rate = row.len();
+    let mut p = 0;
+    while p < keys.len() {
+        let a = p * rate;
+        let d = a + rate;
+        keys[p] = key_symbol(q, row, &source[a..d]);
+        p += 1;
+    }
+}
+
+// User by user, by each one's row.
+fn write_keys(
+    plan: Plan,
+    table: &[Symbol],
+    positions: usize,
+    source: &[Symbol],
+    keys: &mut [Symbol],
+)
+    requires { ⌜ (0 < plan .q) × (usersOf plan ≤ 16) × (length (now table) ≡ usersOf plan * plan .rate) × (length (now source) ≡ positions * plan .rate) × (length (now keys) ≡ usersOf plan * positions) ⌝ }
+    ensures { λ _. ⌜ now (keys .exit) ≡ keysOf plan (now (table .entry)) positions (now (source .entry)) ⌝ }
+{
+    let q = plan.q;
+    let users = plan.clusters * plan.size;
+    let rate = plan.rate;
+    let mut i = 0;
+    while i < users {
+        let b = i * rate;
+        let e = b + rate;
+        let from = i * positions;
+        let to = from + positions;
+        user_keys(q, &table[b..e], source, &mut keys[from..to]);
+        i += 1;
+    }
+}
+
+// The vet's refusals first, then those of the blocks.
+fn check_keys(
+    plan: Plan,
+    table: &[Symbol],
+    length: usize,
+    source: &[Symbol],
+    keys: &[Symbol],
+) -> Verdict
+    ensures { λ r. ⌜ verdictCode r ≡ keyCode plan (now (table .entry)) length (now (source .entry)) (now (keys .entry)) ⌝ }
+{
+    let vetted = vet(plan, table);
+    if !vetted.is_accepted() {
+        return vetted;
+    }
+    if length < 1 || length > Plan::MAX_LENGTH {
+        return Verdict::Refused(Refusal::BadBlockLength);
+    }
+    if source.len() != length * plan.rate || keys.len() != plan.clusters * plan.size * length {
+        return Verdict::Refused(Refusal::WrongLength);
+    }
+    if !arithmetic::all_below(plan.q, source) {
+        return Verdict::Refused(Refusal::NotASymbol);
+    }
+    Verdict::Accepted
+}
+
+// Each user's keys for `length` positions, user by user, for a plan that the vet accepts.
+pub fn derive_keys(
+    plan: Plan,
+    table: &[Symbol],
+    length: usize,
+    source: &[Symbol],
+    keys: &mut [Symbol],
+) -> Verdict
+    ensures code { λ r. ⌜ verdictCode r ≡ keyCode plan (now (table .entry)) length (now (source .entry)) (now (keys .entry)) ⌝ }
+    ensures keys { λ _. ⌜ now (keys .exit) ≡ keysAfter plan (now (table .entry)) length (now (source .entry)) (now (keys .entry)) ⌝ }
+{
+    let verdict = check_keys(plan, table, length, source, keys);
+    if verdict.is_accepted() {
+        write_keys(plan, table, length, source, keys);
+    }
+    verdict
+}

@@ -1,0 +1,6 @@
+// Keys: the table maker, and individual keys.
+mod derive;
+mod maker;
+
+pub use derive::derive_keys;
+pub use maker::make_table;
