@@ -1,7 +1,7 @@
 // Holds records, the table maker and individual keys to a second implementation. Writes how many calls were accepted and refused by which
 // number, and how many results differ: the number and its details, the plan, or what a buffer holds after the call.
-mod deriving;
 mod format;
+mod individual;
 mod making;
 mod named;
 mod numbers;
@@ -75,9 +75,9 @@ fn make_case(number: usize) -> usize {
 }
 
 fn keys_case(number: usize) -> usize {
-    let n = deriving::table_length(number);
-    let m = deriving::source_length(number);
-    let k = deriving::keys_length(number);
+    let n = individual::table_length(number);
+    let m = individual::source_length(number);
+    let k = individual::keys_length(number);
     if n > 256 {
         return DIFFER;
     }
@@ -90,7 +90,7 @@ fn keys_case(number: usize) -> usize {
     let mut t = [0 as Symbol; 256];
     let mut source = [0 as Symbol; 1100];
     let mut out = [0 as Symbol; 1100];
-    deriving::derived(number, &mut t[..n], &mut source[..m], &mut out[..k])
+    individual::derived(number, &mut t[..n], &mut source[..m], &mut out[..k])
 }
 
 fn outcome(group: usize, number: usize) -> usize {

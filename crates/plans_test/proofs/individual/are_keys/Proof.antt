@@ -2,8 +2,8 @@ use borrow.Author.Needs.{needs}
 use mathlib.Core.Path.{_≡_}
 use Prim.Native.Nat.{_≤_, _-_}
 use lib.ListN.{length}
-use Rattle.plans_test.proofs.deriving.are_keys.Statement.{statement}
-use Rattle.plans_test.proofs.deriving.are_keys.Tie as tie
+use Rattle.plans_test.proofs.individual.are_keys.Statement.{statement}
+use Rattle.plans_test.proofs.individual.are_keys.Tie as tie
 
 abbrev Inv-loop : tie.InvT-loop
 Inv-loop s t source keys many x₀ x-end x = (x ≤ x-end) × (x-end ≡ length keys)

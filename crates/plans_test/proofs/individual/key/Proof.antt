@@ -1,6 +1,6 @@
 use borrow.Author.Needs.{needs}
-use Rattle.plans_test.proofs.deriving.key.Statement.{statement}
-use Rattle.plans_test.proofs.deriving.key.Tie as tie
+use Rattle.plans_test.proofs.individual.key.Statement.{statement}
+use Rattle.plans_test.proofs.individual.key.Tie as tie
 
 abbrev Inv-loop : tie.InvT-loop
 Inv-loop s t source i p sum₀ k₀ sum k = Unit {0}
