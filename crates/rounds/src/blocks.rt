@@ -1,14 +1,13 @@
 // Uploads, and taking a key off. Nothing here branches on a reading or a key or divides one, once they are known to be symbols.
 ghost use mathlib.Core.Path.{_≡_};
-ghost use Prim.Native.Nat.{_+_, _<_};
+ghost use Prim.Native.Nat.{_+_, _-_, _<_, _≤_};
 ghost use lib.Dec.{T};
 ghost use lib.ListN.{length};
 ghost use Rattle.refusals.specs.Codes.{verdictCode};
 ghost use Rattle.arithmetic.specs.Primes.{allBelow};
-ghost use Rattle.arithmetic.specs.Field.{residue, sumOf, differenceOf};
+ghost use Rattle.arithmetic.specs.Field.{residue, sumOf};
 ghost use Rattle.rounds.specs.Blocks.{lengthFits, uploadOf, unmaskedOf, blockCode, uploadAfter, unmaskAfter};
 use arithmetic::Symbol;
-use arithmetic::Wide;
 use arithmetic::all_below;
 use arithmetic::is_prime;
 use refusals::Refusal;
@@ -25,30 +24,20 @@ pub(crate) fn length_fits(length: usize) -> bool
     length <= Plan::MAX_LENGTH
 }
 
-// What s leaves when divided by q, for s below 2 q: one difference at most. Both arms are plain numbers, so that the choice compiles to no jump.
-fn correct(q: Symbol, s: Wide) -> Symbol
-    requires { ⌜ s < q + q ⌝ }
-    ensures { λ r. ⌜ r ≡ residue q s ⌝ }
+// a - b, and q more where b is larger. Both arms are plain numbers, so that the choice compiles to no jump.
+fn sub_reduced(q: Symbol, a: Symbol, b: Symbol) -> Symbol
+    requires { ⌜ (a < q) × (b ≤ q) ⌝ }
+    ensures { λ r. ⌜ r ≡ residue q (a + (q - b)) ⌝ }
 {
-    let modulus = q as Wide;
-    let rest = if s >= modulus { s - modulus } else { s };
-    rest as Symbol
+    if a >= b { a - b } else { q - b + a }
 }
 
+// To add b is to take off what b lacks to q.
 pub(crate) fn add_reduced(q: Symbol, a: Symbol, b: Symbol) -> Symbol
     requires { ⌜ (a < q) × (b < q) ⌝ }
     ensures { λ r. ⌜ r ≡ sumOf q a b ⌝ }
 {
-    correct(q, a as Wide + b as Wide)
-}
-
-// Minus b is what b lacks to q.
-fn sub_reduced(q: Symbol, a: Symbol, b: Symbol) -> Symbol
-    requires { ⌜ (a < q) × (b < q) ⌝ }
-    ensures { λ r. ⌜ r ≡ differenceOf q a b ⌝ }
-{
-    let minus = q - b;
-    correct(q, a as Wide + minus as Wide)
+    sub_reduced(q, a, q - b)
 }
 
 // Position by position, by the same instructions whatever the symbols are.
@@ -89,19 +78,10 @@ fn check_blocks(q: Symbol, length: usize, a: &[Symbol], b: &[Symbol], out: &[Sym
     if !length_fits(length) {
         return Verdict::Refused(Refusal::BadBlockLength);
     }
-    if a.len() != length {
+    if a.len() != length || b.len() != length || out.len() != length {
         return Verdict::Refused(Refusal::WrongLength);
     }
-    if b.len() != length {
-        return Verdict::Refused(Refusal::WrongLength);
-    }
-    if out.len() != length {
-        return Verdict::Refused(Refusal::WrongLength);
-    }
-    if !all_below(q, a) {
-        return Verdict::Refused(Refusal::NotASymbol);
-    }
-    if !all_below(q, b) {
+    if !all_below(q, a) || !all_below(q, b) {
         return Verdict::Refused(Refusal::NotASymbol);
     }
     Verdict::Accepted

@@ -116,10 +116,7 @@ impl Round {
         }
         let sums = self.sums;
         let length = self.length;
-        if !all_below(self.q, &sums[..length]) {
-            return Verdict::Refused(Refusal::NotASymbol);
-        }
-        if !all_below(1, &sums[length..]) {
+        if !all_below(self.q, &sums[..length]) || !all_below(1, &sums[length..]) {
             return Verdict::Refused(Refusal::NotASymbol);
         }
         Verdict::Accepted

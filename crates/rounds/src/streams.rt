@@ -33,10 +33,7 @@ fn check_draw(stream: &[Symbol], at: usize, length: usize, out: &[Symbol]) -> Ve
     if out.len() != length {
         return Verdict::Refused(Refusal::WrongLength);
     }
-    if at > stream.len() {
-        return Verdict::Refused(Refusal::StreamTooShort);
-    }
-    if stream.len() - at < length {
+    if at > stream.len() || stream.len() - at < length {
         return Verdict::Refused(Refusal::StreamTooShort);
     }
     Verdict::Accepted

@@ -1,4 +1,6 @@
 use Prim.Native.Nat.{_-_}
+use mathlib.Core.Logic.{⊎-elim}
+use mathlib.Core.Bool.{Bool}
 use mathlib.Core.Path.{sym, ap, _∙_, _≡_}
 use native.Mathlib.Omega.{arith}
 use lib.ListN.{take, drop, length-drop, length}
@@ -42,9 +44,6 @@ past c =
     let R = c .args .self in
     take-all (64 - R .length) (drop (R .length) (R .sums)) (omega (arith, length-drop (R .length) (R .sums), sixty-four c))
 
-returns-2 : tie.Need-returns-2
-returns-2 c = simp (bits-below _ _ (c .before .before .before .before .if1 .left), sym (c .before .all-below .ensures) ∙ not-true _ (c .if2 .taken))
-
 mul-all-below : tie.Need-mul-all-below
 mul-all-below c = search needs
 
@@ -60,14 +59,23 @@ part-all-below-end c = let l : length (c .before .before .before .before .before
 all-below-requires-2 : tie.Need-all-below-requires-2
 all-below-requires-2 c κs = search needs
 
-below-is : (c : tie.After-all-below2) → (let R = c .before .before .before .before .before .before .before .before .before .args .self in allBelow 1 (drop (R .length) (R .sums)) ≡ c .all-below2 .result)
-below-is c = sym (c .all-below2 .ensures ∙ ap (allBelow 1) (past (c .before .before .before .before .before .before .before .before .before)))
+below-is : (c : tie.Start) {r : Bool} → (let R = c .args .self in r ≡ allBelow 1 (take (64 - R .length) (drop (R .length) (R .sums))) → allBelow 1 (drop (R .length) (R .sums)) ≡ r)
+below-is c e = sym (e ∙ ap (allBelow 1) (past c))
+
+returns-2 : tie.Need-returns-2
+returns-2 c =
+    let b = bits-below _ _ (c .before .before .before .before .if1 .left) in
+    ⊎-elim (λ w. simp (b, sym (c .before .all-below .ensures) ∙ not-true _ (w .taken)))
+    (λ w. simp (b, sym (c .before .all-below .ensures) ∙ not-false _ (w .0 .left), below-is (c .before .before .before .before .before .before) (w .3 .ensures) ∙ not-true _ (w .4 .taken)))
+    (c .if2 .came)
 
 returns-3 : tie.Need-returns-3
-returns-3 c = simp (bits-below _ _ (c .before .before .before .before .before .before .before .before .if1 .left), sym (c .before .before .before .before .before .all-below .ensures) ∙ not-false _ (c .before .before .before .before .if2 .left), below-is (c .before) ∙ not-true _ (c .if3 .taken))
-
-returns-4 : tie.Need-returns-4
-returns-4 c = simp (bits-below _ _ (c .before .before .before .before .before .before .before .before .if1 .left), sym (c .before .before .before .before .before .all-below .ensures) ∙ not-false _ (c .before .before .before .before .if2 .left), below-is (c .before) ∙ not-false _ (c .if3 .left))
+returns-3 c =
+    simp (
+      bits-below _ _ (c .before .before .before .before .before .before .before .before .if1 .left),
+      sym (c .before .before .before .before .before .all-below .ensures) ∙ not-false _ (c .before .before .before .before .if2 .left),
+      below-is (c .before .before .before .before .before .before .before .before .before .before) (c .before .all-below2 .ensures) ∙ not-false _ (c .if3 .left),
+    )
 
 pub check-contents-spec : {M : Type 1} → statement M
 check-contents-spec =
@@ -80,11 +88,10 @@ check-contents-spec =
     array-share-prefix-sums
     slice-aggregate-all-below
     all-below-requires
-    returns-2
     mul-all-below
     sub-all-below
     part-all-below-start
     part-all-below-end
     all-below-requires-2
-    returns-3
-    returns-4)
+    returns-2
+    returns-3)

@@ -1,7 +1,10 @@
 use borrow.Author.Needs.{needs}
 use borrow.Author.Tests.{eq-eqb, ne-eqb, not-true, not-false}
+use mathlib.Core.Logic.{⊎-elim}
 use mathlib.Core.Path.{_≡_, sym, _∙_}
-use mathlib.Core.Bool.{true}
+use mathlib.Core.Bool.{Bool, true, _&&_}
+use lib.Dec.{eqb}
+use lib.ListN.{length}
 use Rattle.arithmetic.specs.Primes.{isPrime}
 use Rattle.rounds.specs.Blocks.{lengthFits}
 use Rattle.rounds.proofs.blocks.check_blocks.Statement.{statement}
@@ -26,29 +29,54 @@ fits c = sym (c .before .length-fits .ensures) ∙ not-false _ (c .if2 .left)
 returns-2 : tie.Need-returns-2
 returns-2 c = simp (prime (c .before .before), sym (c .before .length-fits .ensures) ∙ not-true _ (c .if2 .taken))
 
+-- whether a block's length is the one asked for
+abbrev sizedA : tie.Start → Bool
+sizedA s = eqb (length (s .args .a .now)) (s .args .length)
+
+abbrev sizedB : tie.Start → Bool
+sizedB s = eqb (length (s .args .b .now)) (s .args .length)
+
+abbrev sizedOut : tie.Start → Bool
+sizedOut s = eqb (length (s .args .out .now)) (s .args .length)
+
 returns-3 : tie.Need-returns-3
-returns-3 c = simp (prime (c .before .before .before), fits (c .before), ne-eqb _ _ (c .if3 .taken))
+returns-3 c =
+    let s = c .before .before .before .before .before .before .before .before in
+    let p = prime (c .before .before .before) in
+    let f = fits (c .before) in
+    ⊎-elim (λ w. simp (p, f, ne-eqb _ _ (w .taken)))
+    (⊎-elim (λ w. simp (p, f, eq-eqb _ _ (w .0 .left), not-true (sizedB s) (w .1 .taken))) (λ w. simp (p, f, eq-eqb _ _ (w .0 .left), not-false (sizedB s) (w .1 .left), not-true (sizedOut s) (w .2 .taken))))
+    (c .if3 .came)
 
-returns-4 : tie.Need-returns-4
-returns-4 c = simp (prime (c .before .before .before .before), fits (c .before .before), eq-eqb _ _ (c .before .if3 .left), ne-eqb _ _ (c .if4 .taken))
-
-returns-5 : tie.Need-returns-5
-returns-5 c = simp (prime (c .before .before .before .before .before), fits (c .before .before .before), eq-eqb _ _ (c .before .before .if3 .left), eq-eqb _ _ (c .before .if4 .left), ne-eqb _ _ (c .if5 .taken))
+sized : (c : tie.Else5) → (let s = c .before .before .before .before .before .before .before .before .before .before in (sizedA s && sizedB s && sizedOut s) ≡ true)
+sized c =
+    let s = c .before .before .before .before .before .before .before .before .before .before in
+    simp (eq-eqb _ _ (c .before .before .if3 .left), not-false (sizedB s) (c .before .if4 .left), not-false (sizedOut s) (c .if5 .left))
 
 all-below-requires : tie.Need-all-below-requires
 all-below-requires c κs = search needs
 
-returns-6 : tie.Need-returns-6
-returns-6 c = simp (prime (c .before .before .before .before .before .before .before), fits (c .before .before .before .before .before), eq-eqb _ _ (c .before .before .before .before .if3 .left), eq-eqb _ _ (c .before .before .before .if4 .left), eq-eqb _ _ (c .before .before .if5 .left), sym (c .before .all-below .ensures) ∙ not-true _ (c .if6 .taken))
-
 all-below-requires-2 : tie.Need-all-below-requires-2
 all-below-requires-2 c κs = search needs
 
-returns-7 : tie.Need-returns-7
-returns-7 c = simp (prime (c .before .before .before .before .before .before .before .before .before), fits (c .before .before .before .before .before .before .before), eq-eqb _ _ (c .before .before .before .before .before .before .if3 .left), eq-eqb _ _ (c .before .before .before .before .before .if4 .left), eq-eqb _ _ (c .before .before .before .before .if5 .left), sym (c .before .before .before .all-below .ensures) ∙ not-false _ (c .before .before .if6 .left), sym (c .before .all-below2 .ensures) ∙ not-true _ (c .if7 .taken))
+returns-4 : tie.Need-returns-4
+returns-4 c =
+    let p = prime (c .before .before .before .before .before .before .before) in
+    let f = fits (c .before .before .before .before .before) in
+    let s = sized (c .before .before) in
+    ⊎-elim (λ w. simp (p, f, s, sym (c .before .all-below .ensures) ∙ not-true _ (w .taken)))
+    (λ w. simp (p, f, s, sym (c .before .all-below .ensures) ∙ not-false _ (w .0 .left), sym (w .1 .ensures) ∙ not-true _ (w .2 .taken)))
+    (c .if6 .came)
 
-returns-8 : tie.Need-returns-8
-returns-8 c = simp (prime (c .before .before .before .before .before .before .before .before .before), fits (c .before .before .before .before .before .before .before), eq-eqb _ _ (c .before .before .before .before .before .before .if3 .left), eq-eqb _ _ (c .before .before .before .before .before .if4 .left), eq-eqb _ _ (c .before .before .before .before .if5 .left), sym (c .before .before .before .all-below .ensures) ∙ not-false _ (c .before .before .if6 .left), sym (c .before .all-below2 .ensures) ∙ not-false _ (c .if7 .left))
+returns-5 : tie.Need-returns-5
+returns-5 c =
+    simp (
+      prime (c .before .before .before .before .before .before .before .before .before),
+      fits (c .before .before .before .before .before .before .before),
+      sized (c .before .before .before .before),
+      sym (c .before .before .before .all-below .ensures) ∙ not-false _ (c .before .before .if6 .left),
+      sym (c .before .all-below2 .ensures) ∙ not-false _ (c .if7 .left),
+    )
 
 pub check-blocks-spec : {M : Type 1} → statement M
 check-blocks-spec =
@@ -59,10 +87,7 @@ check-blocks-spec =
     length-fits-requires
     returns-2
     returns-3
-    returns-4
-    returns-5
     all-below-requires
-    returns-6
     all-below-requires-2
-    returns-7
-    returns-8)
+    returns-4
+    returns-5)

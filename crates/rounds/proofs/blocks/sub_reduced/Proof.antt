@@ -1,25 +1,30 @@
+use Prim.Native.Nat.{_+_, _-_}
+use native.Mathlib.Omega.{arith}
 use borrow.Author.Needs.{needs}
-use mathlib.Core.Path.{_∙_}
-use Rattle.rounds.proofs.BlockLaws.{difference-small}
+use mathlib.Core.Path.{_≡_, sym, _∙_}
+use Rattle.rounds.proofs.BlockLaws.{residue-small, residue-large}
 use Rattle.rounds.proofs.blocks.sub_reduced.Statement.{statement}
 use Rattle.rounds.proofs.blocks.sub_reduced.Tie as tie
 
-sub-minus : tie.Need-sub-minus
-sub-minus c = search needs
+sub-result : tie.Need-sub-result
+sub-result c = search needs
 
-cast-correct : tie.Need-cast-correct
-cast-correct c = search needs
-
-add-correct : tie.Need-add-correct
-add-correct c = search needs
-
-correct-requires : tie.Need-correct-requires
-correct-requires c κs = search needs
+add-result : tie.Need-add-result
+add-result c = search needs
 
 returns : tie.Need-returns
 returns c =
     let s = c .before in
-    c .correct .ensures ∙ difference-small (s .args .q) (s .args .a) (s .args .b) (s .pre .1)
+    let a = s .args in
+    let e : a .a - a .b ≡ a .a + (a .q - a .b) - a .q = omega (arith, s .pre .1, c .if1 .taken) in
+    e ∙ sym (residue-large (a .q) (a .a + (a .q - a .b)) (omega (arith, s .pre .1, c .if1 .taken)) (omega (arith, s .pre .0)))
+
+returns-2 : tie.Need-returns-2
+returns-2 c =
+    let s = c .before in
+    let a = s .args in
+    let e : a .q - a .b + a .a ≡ a .a + (a .q - a .b) = omega arith in
+    e ∙ sym (residue-small (a .q) (a .a + (a .q - a .b)) (omega (arith, s .pre .1, c .if1 .left)))
 
 pub sub-reduced-spec : {M : Type 1} → statement M
-sub-reduced-spec = tie.close (tie.spec sub-minus cast-correct add-correct correct-requires returns)
+sub-reduced-spec = tie.close (tie.spec sub-result add-result returns returns-2)

@@ -1,7 +1,7 @@
 -- The invariant: the differences written are those of the positions passed.
 use borrow.Author.Needs.{needs}
 use mathlib.Core.Path.{refl, sym, _∙_}
-use Prim.Native.Nat.{_-_, _<_}
+use Prim.Native.Nat.{ℕ, _-_, _<_}
 use native.Mathlib.Omega.{arith}
 use lib.ListN.{length, length-set}
 use Rattle.arithmetic.specs.Field.{differenceOf}
@@ -10,6 +10,7 @@ use Rattle.matrices.specs.Linear.{at}
 use Rattle.secrecy.specs.Lists.{tab}
 use Rattle.secrecy.proofs.ListLaws.{at-tab, length-tab}
 use Rattle.vetting.proofs.Fronts.{Front, front-none, front-next, front-whole}
+use Rattle.rounds.proofs.BlockLaws.{difference-small}
 use Rattle.rounds.proofs.blocks.write_unmasked.Statement.{statement}
 use Rattle.rounds.proofs.blocks.write_unmasked.Tie as tie
 
@@ -34,14 +35,15 @@ mul-b c = search needs
 shared-slice-read-b : tie.Need-shared-slice-read-b Inv-loop μ-loop
 shared-slice-read-b c = search needs
 
+key-below : (s : tie.Start Inv-loop μ-loop) (p : ℕ) → at (s .args .key .now) p < s .args .q
+key-below s p = below-at (s .args .q) (s .args .key .now) (s .pre .0) (s .pre .4) p
+
 sub-reduced-requires : tie.Need-sub-reduced-requires Inv-loop μ-loop
 sub-reduced-requires c κs =
     let s = c .before .before .before .loop in
     let start = c .before .before .before .before .before .before .before in
     let a = start .args in
-    let first : at (a .upload .now) (s .p) < a .q = below-at (a .q) (a .upload .now) (start .pre .0) (start .pre .3) (s .p) in
-    let second : at (a .key .now) (s .p) < a .q = below-at (a .q) (a .key .now) (start .pre .0) (start .pre .4) (s .p) in
-    (omega (arith, start .pre .0), omega (arith, start .pre .0))
+    (below-at (a .q) (a .upload .now) (start .pre .0) (start .pre .3) (s .p), omega (arith, key-below start (s .p)))
 
 mul-out : tie.Need-mul-out Inv-loop μ-loop
 mul-out c = search needs
@@ -60,9 +62,11 @@ loop-less c =
 loop-again : tie.Need-loop-again Inv-loop μ-loop
 loop-again c =
     let s = c .before .before .before .before .loop in
-    let a = c .before .before .before .before .before .before .before .before .args in
+    let start = c .before .before .before .before .before .before .before .before in
+    let a = start .args in
     front-next _ _ (s .out) (s .p) (c .sub-reduced .result) (s .inv) (c .before .before .before .loop-test .taken)
     (c .sub-reduced .ensures
+    ∙ difference-small (a .q) (at (a .upload .now) (s .p)) (at (a .key .now) (s .p)) (key-below start (s .p))
     ∙ sym (at-tab (length (a .out .now)) (λ p. differenceOf (a .q) (at (a .upload .now) p) (at (a .key .now) p)) (s .p) (omega (arith, c .before .before .before .loop-test .taken, s .inv .whole))))
 
 same-length : tie.Need-same-length Inv-loop μ-loop
