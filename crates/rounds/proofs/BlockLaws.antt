@@ -19,7 +19,7 @@ use Rattle.arithmetic.proofs.FieldLaws.{sum-difference}
 use Rattle.matrices.specs.Linear.{at, Vector}
 use Rattle.secrecy.proofs.ListLaws.{at-tab, tab-at, tab-vector}
 use Rattle.rounds.specs.Blocks.{lengthFits, uploadOf, unmaskedOf, blockChecks, blockCode}
-use Rattle.rounds.proofs.Answers.{filled}
+use Rattle.refusals.proofs.Answers.{filled}
 
 -- ---- one subtraction
 

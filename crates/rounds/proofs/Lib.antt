@@ -1,6 +1,5 @@
 pub mod BlockLaws
 pub mod StreamLaws
-mod Answers
 mod CheckLaws
 mod ReportedLaws
 mod StepLaws

@@ -1,14 +1,14 @@
 use borrow.Author.Needs.{needs}
-use borrow.Author.Tests.{eq-eqb, ne-eqb, not-true, not-false}
-use mathlib.Core.Path.{_≡_, sym, ap, _∙_}
+use borrow.Author.Tests.{eq-eqb, ne-eqb, not-false}
+use mathlib.Core.Path.{_≡_, sym, _∙_}
 use mathlib.Core.Bool.{Bool, not}
 use mathlib.Core.List.{List, [], _∷_}
 use lib.Dec.{eqb}
 use lib.ListN.{length}
 use Rattle.refusals.specs.declared.Code.{Code}
-use Rattle.refusals.specs.Codes.{code, accepted, verdictCode, isAccepted, firstOf}
-use Rattle.refusals.proofs.CodeLaws.{accepted-code}
-use Rattle.refusals.proofs.Orders.{first-decides, rest-decides}
+use Rattle.refusals.specs.Codes.{code, accepted, firstOf}
+use Rattle.refusals.proofs.Answers.{passes, first-answers}
+use Rattle.refusals.proofs.Orders.{rest-decides}
 use Rattle.vetting.specs.Verdict.{tableChecks}
 use Rattle.records.specs.Records.{recordSize, writeVerdict}
 use Rattle.vetting.proofs.VerdictLaws.{table-passed}
@@ -28,15 +28,12 @@ room s = (not (eqb (length (s .args .out .now)) (recordSize (s .args .plan))), c
 returns : tie.Need-returns
 returns c =
     let s = c .before .before .before .before .before in
-    let e = c .before .before .check-plan .ensures in
-    e ∙ first-decides (tableChecks (s .args .plan) (s .args .table .now)) (room s) (ap isAccepted (sym e) ∙ sym (c .before .is-accepted .ensures) ∙ not-true _ (c .if1 .taken))
+    let checked = c .before .before .check-plan in
+    first-answers (tableChecks (s .args .plan) (s .args .table .now)) (room s) (checked .result) (checked .ensures) (c .before .is-accepted .ensures) (c .if1 .taken)
 
 -- the others accepted, so that it decides
-none : (c : tie.Else1) → accepted ≡ verdictCode (c .before .before .check-plan .result)
-none c = accepted-code (c .before .before .check-plan .result) (sym (c .before .is-accepted .ensures) ∙ not-false _ (c .if1 .left))
-
 told : (c : tie.Else1) → (let a = c .before .before .before .before .before .args in accepted ≡ firstOf (tableChecks (a .plan) (a .table .now)))
-told c = none c ∙ c .before .before .check-plan .ensures
+told c = passes (c .before .before .check-plan .result) (c .before .before .check-plan .ensures) (c .before .is-accepted .ensures) (not-false _ (c .if1 .left))
 
 decides : (c : tie.Else1) → (let s = c .before .before .before .before .before in firstOf (room s) ≡ writeVerdict (s .args .plan) (s .args .table .now) (s .args .out .now))
 decides c = let s = c .before .before .before .before .before in rest-decides (tableChecks (s .args .plan) (s .args .table .now)) (room s) tt (told c)
@@ -54,7 +51,7 @@ returns-3 : tie.Need-returns-3
 returns-3 c =
     let s = c .before .before .before .before .before .before .before in
     let e : accepted ≡ firstOf (room s) = simp (eq-eqb _ _ (c .if2 .left ∙ c .before .record-size .ensures)) in
-    sym (none (c .before .before)) ∙ e ∙ decides (c .before .before)
+    c .before .before .before .before .check-plan .ensures ∙ sym (told (c .before .before)) ∙ e ∙ decides (c .before .before)
 
 pub check-writing-spec : {M : Type 1} → statement M
 check-writing-spec =

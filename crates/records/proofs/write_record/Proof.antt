@@ -1,8 +1,8 @@
 use borrow.Author.Needs.{needs}
-use mathlib.Core.Path.{_≡_, sym, ap, _∙_}
+use mathlib.Core.Path.{_≡_, _∙_}
 use Rattle.refusals.specs.declared.Code.{Code}
-use Rattle.refusals.specs.Codes.{accepted, isAccepted}
-use Rattle.refusals.proofs.CodeLaws.{accepted-code, new-taken, old-kept}
+use Rattle.refusals.specs.Codes.{accepted}
+use Rattle.refusals.proofs.Answers.{passes, takes, keeps}
 use Rattle.records.specs.Records.{writeVerdict}
 use Rattle.records.proofs.RecordChecks.{writable}
 use Rattle.records.proofs.write_record.Statement.{statement}
@@ -18,12 +18,8 @@ is-accepted-requires c κs = search needs
 abbrev code : tie.Start → Code
 code s = writeVerdict (s .args .plan) (s .args .table .now) (s .args .out .now)
 
--- whether it accepts
-answer : (c : tie.After-is-accepted) → isAccepted (code (c .before .before .before .before .before)) ≡ c .is-accepted .result
-answer c = ap isAccepted (sym (c .before .check-writing .ensures)) ∙ sym (c .is-accepted .ensures)
-
 told : (c : tie.Then1) → accepted ≡ code (c .before .before .before .before .before .before)
-told c = accepted-code (c .before .before .check-writing .result) (sym (c .before .is-accepted .ensures) ∙ c .if1 .taken) ∙ c .before .before .check-writing .ensures
+told c = passes (c .before .before .check-writing .result) (c .before .before .check-writing .ensures) (c .before .is-accepted .ensures) (c .if1 .taken)
 
 write-parts-requires : tie.Need-write-parts-requires
 write-parts-requires c κs =
@@ -38,7 +34,8 @@ returns : tie.Need-returns
 returns c =
     let s = c .before .before .before .before .before .before .before .before .before .before in
     let t = c .before .before .before .before in
-    (t .before .before .check-writing .ensures, c .before .before .write-parts .ensures ∙ sym (new-taken (code s) _ (s .args .out .now) (answer (t .before) ∙ t .if1 .taken)))
+    let checked = t .before .before .check-writing in
+    (checked .ensures, c .before .before .write-parts .ensures ∙ takes (checked .result) (checked .ensures) (t .before .is-accepted .ensures) _ (s .args .out .now) (t .if1 .taken))
 
 same-length-2 : tie.Need-same-length-2
 same-length-2 c = search needs
@@ -46,7 +43,8 @@ same-length-2 c = search needs
 returns-2 : tie.Need-returns-2
 returns-2 c =
     let s = c .before .before .before .before .before .before in
-    (c .before .before .check-writing .ensures, sym (old-kept (code s) _ (s .args .out .now) (answer (c .before) ∙ c .if1 .left)))
+    let checked = c .before .before .check-writing in
+    (checked .ensures, keeps (checked .result) (checked .ensures) (c .before .is-accepted .ensures) _ (s .args .out .now) (c .if1 .left))
 
 pub write-record-spec : {M : Type 1} → statement M
 write-record-spec =

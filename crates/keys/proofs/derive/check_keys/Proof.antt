@@ -1,7 +1,7 @@
 use borrow.Author.Needs.{needs}
 use borrow.Author.Tests.{ltb-true, ltb-false, le-leb, lt-leb, eq-eqb, ne-eqb, not-true, not-false}
 use mathlib.Core.Logic.{⊎-elim}
-use mathlib.Core.Path.{_≡_, sym, ap, _∙_}
+use mathlib.Core.Path.{_≡_, sym, _∙_}
 use mathlib.Core.Bool.{Bool, true, _&&_}
 use Prim.Native.Nat.{ℕ, _*_, _≤_}
 use lib.Dec.{leb, eqb}
@@ -9,12 +9,11 @@ use lib.ListN.{length}
 use native.Mathlib.Nat.{mul-le-mul}
 use native.Mathlib.Omega.{arith}
 use Rattle.refusals.specs.declared.Code.{Code}
-use Rattle.refusals.specs.Codes.{accepted, isAccepted, firstOf}
+use Rattle.refusals.specs.Codes.{accepted, firstOf}
 use Rattle.vetting.specs.Plans.{usersOf}
 use Rattle.vetting.specs.Verdict.{vetChecks}
 use Rattle.keys.specs.Keys.{keyChecks}
-use Rattle.refusals.proofs.CodeLaws.{accepted-code}
-use Rattle.refusals.proofs.Orders.{first-decides}
+use Rattle.refusals.proofs.Answers.{passes, first-answers}
 use Rattle.vetting.proofs.PlanLaws.{Vetted, vetted}
 use Rattle.keys.proofs.KeyLaws.{blockChecks, blocks-decide}
 use Rattle.keys.proofs.derive.check_keys.Statement.{statement}
@@ -29,14 +28,12 @@ is-accepted-requires c κs = search needs
 returns : tie.Need-returns
 returns c =
     let a = c .before .before .before .before .before .before .args in
-    let e = c .before .before .vet .ensures in
-    e
-    ∙ first-decides (vetChecks (a .plan) (a .table .now)) (blockChecks (a .plan) (a .length) (a .source .now) (a .keys .now))
-    (ap isAccepted (sym e) ∙ sym (c .before .is-accepted .ensures) ∙ not-true _ (c .if1 .taken))
+    let vetted = c .before .before .vet in
+    first-answers (vetChecks (a .plan) (a .table .now)) (blockChecks (a .plan) (a .length) (a .source .now) (a .keys .now)) (vetted .result) (vetted .ensures) (c .before .is-accepted .ensures) (c .if1 .taken)
 
 -- the vet accepted
 told : (c : tie.Else1) → (let a = c .before .before .before .before .before .before .args in accepted ≡ firstOf (vetChecks (a .plan) (a .table .now)))
-told c = accepted-code (c .before .before .vet .result) (sym (c .before .is-accepted .ensures) ∙ not-false _ (c .if1 .left)) ∙ c .before .before .vet .ensures
+told c = passes (c .before .before .vet .result) (c .before .before .vet .ensures) (c .before .is-accepted .ensures) (not-false _ (c .if1 .left))
 
 known : (c : tie.Else1) → (let a = c .before .before .before .before .before .before .args in Vetted (a .plan) (a .table .now))
 known c = let a = c .before .before .before .before .before .before .args in vetted (a .plan) (a .table .now) (told c)

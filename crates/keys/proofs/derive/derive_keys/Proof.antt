@@ -1,8 +1,8 @@
 use borrow.Author.Needs.{needs}
-use mathlib.Core.Path.{_≡_, sym, ap, _∙_}
+use mathlib.Core.Path.{_≡_, _∙_}
 use Rattle.refusals.specs.declared.Code.{Code}
-use Rattle.refusals.specs.Codes.{accepted, isAccepted}
-use Rattle.refusals.proofs.CodeLaws.{accepted-code, new-taken, old-kept}
+use Rattle.refusals.specs.Codes.{accepted}
+use Rattle.refusals.proofs.Answers.{passes, takes, keeps}
 use Rattle.arithmetic.proofs.PrimeLaws.{prime-pos}
 use Rattle.keys.specs.Keys.{keyCode}
 use Rattle.keys.proofs.KeyLaws.{derivable}
@@ -19,12 +19,8 @@ is-accepted-requires c κs = search needs
 abbrev code : tie.Start → Code
 code s = keyCode (s .args .plan) (s .args .table .now) (s .args .length) (s .args .source .now) (s .args .keys .now)
 
--- whether it accepts
-answer : (c : tie.After-is-accepted) → isAccepted (code (c .before .before .before .before .before .before)) ≡ c .is-accepted .result
-answer c = ap isAccepted (sym (c .before .check-keys .ensures)) ∙ sym (c .is-accepted .ensures)
-
 told : (c : tie.Then1) → accepted ≡ code (c .before .before .before .before .before .before .before)
-told c = accepted-code (c .before .before .check-keys .result) (sym (c .before .is-accepted .ensures) ∙ c .if1 .taken) ∙ c .before .before .check-keys .ensures
+told c = passes (c .before .before .check-keys .result) (c .before .before .check-keys .ensures) (c .before .is-accepted .ensures) (c .if1 .taken)
 
 write-keys-requires : tie.Need-write-keys-requires
 write-keys-requires c κs =
@@ -39,7 +35,8 @@ returns : tie.Need-returns
 returns c =
     let s = c .before .before .before .before .before .before .before .before .before .before .before in
     let t = c .before .before .before .before in
-    (t .before .before .check-keys .ensures, c .before .before .write-keys .ensures ∙ sym (new-taken (code s) _ (s .args .keys .now) (answer (t .before) ∙ t .if1 .taken)))
+    let checked = t .before .before .check-keys in
+    (checked .ensures, c .before .before .write-keys .ensures ∙ takes (checked .result) (checked .ensures) (t .before .is-accepted .ensures) _ (s .args .keys .now) (t .if1 .taken))
 
 same-length-2 : tie.Need-same-length-2
 same-length-2 c = search needs
@@ -47,7 +44,8 @@ same-length-2 c = search needs
 returns-2 : tie.Need-returns-2
 returns-2 c =
     let s = c .before .before .before .before .before .before .before in
-    (c .before .before .check-keys .ensures, sym (old-kept (code s) _ (s .args .keys .now) (answer (c .before) ∙ c .if1 .left)))
+    let checked = c .before .before .check-keys in
+    (checked .ensures, keeps (checked .result) (checked .ensures) (c .before .is-accepted .ensures) _ (s .args .keys .now) (c .if1 .left))
 
 pub derive-keys-spec : {M : Type 1} → statement M
 derive-keys-spec =

@@ -6,7 +6,7 @@ use Rattle.refusals.specs.Codes.{verdictCode, ifAccepted}
 use Rattle.refusals.proofs.CodeLaws.{accepted-takes, old-kept}
 use Rattle.rounds.specs.declared.Round.{Round}
 use Rattle.rounds.specs.Rounds.{oneOf, openCode, opened, noRound, relayRound}
-use Rattle.rounds.proofs.Answers.{passes, refuses}
+use Rattle.refusals.proofs.Answers.{passes, refuses}
 use Rattle.rounds.proofs.RelayRound.open.Statement.{statement}
 use Rattle.rounds.proofs.RelayRound.open.Tie as tie
 

@@ -4,7 +4,7 @@ use mathlib.Core.Path.{_∙_}
 use Rattle.rounds.specs.Ledger.{frame}
 use Rattle.rounds.specs.Rounds.{stateChecks}
 use Rattle.rounds.specs.Machine.{ownChecks}
-use Rattle.rounds.proofs.Answers.{passes, first-answers, second-answers}
+use Rattle.refusals.proofs.Answers.{passes, first-answers, second-answers}
 use Rattle.rounds.proofs.CheckLaws.{good-state}
 use Rattle.rounds.proofs.Round.check_frame.Statement.{statement}
 use Rattle.rounds.proofs.Round.check_frame.Tie as tie

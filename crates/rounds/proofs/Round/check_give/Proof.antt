@@ -4,7 +4,7 @@ use mathlib.Core.Path.{_∙_}
 use lib.ListN.{length}
 use Rattle.rounds.specs.Rounds.{stateChecks}
 use Rattle.rounds.specs.Machine.{lentChecks}
-use Rattle.rounds.proofs.Answers.{passes, first-answers, second-answers}
+use Rattle.refusals.proofs.Answers.{passes, first-answers, second-answers}
 use Rattle.rounds.proofs.CheckLaws.{good-state}
 use Rattle.rounds.proofs.Round.check_give.Statement.{statement}
 use Rattle.rounds.proofs.Round.check_give.Tie as tie

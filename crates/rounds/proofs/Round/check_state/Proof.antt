@@ -6,7 +6,7 @@ use mathlib.Core.Bool.{Bool}
 use Rattle.refusals.specs.declared.Code.{Code}
 use Rattle.rounds.specs.Rounds.{openChecks}
 use Rattle.rounds.specs.Machine.{contentChecks}
-use Rattle.rounds.proofs.Answers.{passes, first-answers, second-answers}
+use Rattle.refusals.proofs.Answers.{passes, first-answers, second-answers}
 use Rattle.rounds.proofs.CheckLaws.{state-parts, opening-known}
 use Rattle.rounds.proofs.Round.check_state.Statement.{statement}
 use Rattle.rounds.proofs.Round.check_state.Tie as tie

@@ -4,10 +4,10 @@ use mathlib.Core.Path.{_≡_, sym, _∙_}
 use mathlib.Core.List.{[], _∷_}
 use Rattle.refusals.specs.declared.Code.{Code}
 use Rattle.refusals.specs.Codes.{accepted}
-use Rattle.refusals.proofs.CodeLaws.{accepted-takes, old-kept}
+use Rattle.refusals.proofs.CodeLaws.{accepted-takes}
 use Rattle.rounds.specs.Ledger.{Frame, frame}
 use Rattle.rounds.specs.Rounds.{stepCode, after}
-use Rattle.rounds.proofs.Answers.{passes, refuses}
+use Rattle.refusals.proofs.Answers.{passes, keeps}
 use Rattle.rounds.proofs.CheckLaws.{Passed, frame-known}
 use Rattle.rounds.proofs.StepLaws.{can-count, counted-is}
 use Rattle.rounds.proofs.Round.count.Statement.{statement}
@@ -39,7 +39,7 @@ returns : tie.Need-returns
 returns c =
     let checked = c .before .before .check-frame in
     let s = c .before .before .before .before in
-    (checked .ensures, sym (old-kept (code s) _ (s .args .self) (refuses (checked .result) (checked .ensures) (c .before .is-accepted .ensures) (not-true _ (c .if1 .taken)))))
+    (checked .ensures, keeps (checked .result) (checked .ensures) (c .before .is-accepted .ensures) _ (s .args .self) (not-true _ (c .if1 .taken)))
 
 counted-requires : tie.Need-counted-requires
 counted-requires c κs =

@@ -5,9 +5,8 @@ use native.Mathlib.Omega.{arith}
 use lib.ListN.{take}
 use Rattle.refusals.specs.declared.Code.{Code}
 use Rattle.refusals.specs.Codes.{accepted}
-use Rattle.refusals.proofs.CodeLaws.{old-kept}
 use Rattle.rounds.specs.Rounds.{giveCode}
-use Rattle.rounds.proofs.Answers.{passes, refuses, filled}
+use Rattle.refusals.proofs.Answers.{passes, keeps, filled}
 use Rattle.rounds.proofs.CheckLaws.{Giving, give-known}
 use Rattle.rounds.proofs.Round.give.Statement.{statement}
 use Rattle.rounds.proofs.Round.give.Tie as tie
@@ -50,7 +49,7 @@ returns-2 : tie.Need-returns-2
 returns-2 c =
     let checked = c .before .before .check-give in
     let s = c .before .before .before .before .before in
-    (checked .ensures, sym (old-kept (code s) _ (s .args .out .now) (refuses (checked .result) (checked .ensures) (c .before .is-accepted .ensures) (c .if1 .left))))
+    (checked .ensures, keeps (checked .result) (checked .ensures) (c .before .is-accepted .ensures) _ (s .args .out .now) (c .if1 .left))
 
 pub give-spec : {M : Type 1} → statement M
 give-spec =

@@ -1,9 +1,8 @@
 use borrow.Author.Needs.{needs}
 use borrow.Author.Tests.{not-true, not-false}
-use mathlib.Core.Path.{sym, _∙_}
-use Rattle.refusals.proofs.CodeLaws.{accepted-takes, old-kept}
-use Rattle.rounds.specs.Rounds.{openCode, opened, noRound}
-use Rattle.rounds.proofs.Answers.{passes, refuses}
+use mathlib.Core.Path.{_∙_}
+use Rattle.rounds.specs.Rounds.{opened, noRound}
+use Rattle.refusals.proofs.Answers.{takes, keeps}
 use Rattle.rounds.proofs.Round.open.Statement.{statement}
 use Rattle.rounds.proofs.Round.open.Tie as tie
 
@@ -22,7 +21,7 @@ returns c =
     let a = b .before .before .args in
     let v = b .before .check-opening .result in
     let e = b .before .check-opening .ensures in
-    (e, c .empty .ensures ∙ sym (old-kept (openCode (a .clusters) (a .size) (a .q) (a .length) (a .known)) (opened (a .clusters) (a .size) (a .q) (a .length) (a .number)) noRound (refuses v e (b .is-accepted .ensures) (not-true _ (c .before .if1 .taken)))))
+    (e, c .empty .ensures ∙ keeps v e (b .is-accepted .ensures) (opened (a .clusters) (a .size) (a .q) (a .length) (a .number)) noRound (not-true _ (c .before .if1 .taken)))
 
 empty-requires-2 : tie.Need-empty-requires-2
 empty-requires-2 c κs = search needs
@@ -33,7 +32,7 @@ returns-2 c =
     let a = b .before .before .args in
     let v = b .before .check-opening .result in
     let e = b .before .check-opening .ensures in
-    (e, c .empty2 .ensures ∙ sym (accepted-takes (openCode (a .clusters) (a .size) (a .q) (a .length) (a .known)) (opened (a .clusters) (a .size) (a .q) (a .length) (a .number)) noRound (passes v e (b .is-accepted .ensures) (not-false _ (c .before .if1 .left)))))
+    (e, c .empty2 .ensures ∙ takes v e (b .is-accepted .ensures) (opened (a .clusters) (a .size) (a .q) (a .length) (a .number)) noRound (not-false _ (c .before .if1 .left)))
 
 pub open-spec : {M : Type 1} → statement M
 open-spec =

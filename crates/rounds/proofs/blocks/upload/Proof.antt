@@ -1,10 +1,9 @@
 use borrow.Author.Needs.{needs}
-use mathlib.Core.Path.{_≡_, sym, _∙_}
+use mathlib.Core.Path.{_≡_, _∙_}
 use Rattle.refusals.specs.declared.Code.{Code}
 use Rattle.refusals.specs.Codes.{accepted}
-use Rattle.refusals.proofs.CodeLaws.{old-kept}
 use Rattle.rounds.specs.Blocks.{blockCode, uploadOf}
-use Rattle.rounds.proofs.Answers.{passes, refuses}
+use Rattle.refusals.proofs.Answers.{passes, keeps}
 use Rattle.rounds.proofs.BlockLaws.{writable, written}
 use Rattle.rounds.proofs.blocks.upload.Statement.{statement}
 use Rattle.rounds.proofs.blocks.upload.Tie as tie
@@ -46,7 +45,7 @@ returns-2 : tie.Need-returns-2
 returns-2 c =
     let checked = c .before .before .check-blocks in
     let s = c .before .before .before .before .before .before .before in
-    (checked .ensures, sym (old-kept (code s) _ (s .args .out .now) (refuses (checked .result) (checked .ensures) (c .before .is-accepted .ensures) (c .if1 .left))))
+    (checked .ensures, keeps (checked .result) (checked .ensures) (c .before .is-accepted .ensures) _ (s .args .out .now) (c .if1 .left))
 
 pub upload-spec : {M : Type 1} → statement M
 upload-spec =

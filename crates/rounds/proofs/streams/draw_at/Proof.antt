@@ -5,9 +5,9 @@ use Prim.Native.Nat.{_+_}
 use native.Mathlib.Omega.{arith}
 use Rattle.refusals.specs.declared.Code.{Code}
 use Rattle.refusals.specs.Codes.{accepted}
-use Rattle.refusals.proofs.CodeLaws.{accepted-takes, old-kept}
+use Rattle.refusals.proofs.CodeLaws.{accepted-takes}
 use Rattle.rounds.specs.Streams.{drawn, drawCode}
-use Rattle.rounds.proofs.Answers.{passes, refuses, filled}
+use Rattle.refusals.proofs.Answers.{passes, keeps, filled}
 use Rattle.rounds.proofs.StreamLaws.{Drawable, drawable}
 use Rattle.rounds.proofs.streams.draw_at.Statement.{statement}
 use Rattle.rounds.proofs.streams.draw_at.Tie as tie
@@ -29,8 +29,11 @@ returns : tie.Need-returns
 returns c =
     let checked = c .before .before .check-draw in
     let s = c .before .before .before .before .before .before in
-    let e = refuses (checked .result) (checked .ensures) (c .before .is-accepted .ensures) (not-true _ (c .if1 .taken)) in
-    (checked .ensures, sym (old-kept (code s) _ (s .args .at) e), sym (old-kept (code s) _ (s .args .out .now) e))
+    let e = not-true _ (c .if1 .taken) in (
+      checked .ensures,
+      keeps (checked .result) (checked .ensures) (c .before .is-accepted .ensures) _ (s .args .at) e,
+      keeps (checked .result) (checked .ensures) (c .before .is-accepted .ensures) _ (s .args .out .now) e,
+    )
 
 -- the checks accepted
 told : (c : tie.Else1) → accepted ≡ code (c .before .before .before .before .before .before)

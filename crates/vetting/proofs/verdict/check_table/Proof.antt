@@ -1,12 +1,12 @@
 use borrow.Author.Needs.{needs}
-use borrow.Author.Tests.{not-true, not-false}
-use mathlib.Core.Path.{_≡_, sym, ap, _∙_}
+use borrow.Author.Tests.{not-false}
+use mathlib.Core.Path.{_≡_, _∙_}
 use mathlib.Core.List.{[]}
 use Rattle.vetting.specs.Verdict.{tableChecks, columnChecks}
-use Rattle.refusals.specs.Codes.{accepted, isAccepted, firstOf}
-use Rattle.refusals.proofs.CodeLaws.{accepted-code}
+use Rattle.refusals.specs.Codes.{accepted, firstOf}
+use Rattle.refusals.proofs.Answers.{passes, first-answers}
 use Rattle.arithmetic.proofs.PrimeLaws.{prime-pos}
-use Rattle.refusals.proofs.Orders.{first-decides, rest-decides}
+use Rattle.refusals.proofs.Orders.{rest-decides}
 use Rattle.vetting.proofs.VerdictLaws.{table-passed}
 use Rattle.vetting.proofs.verdict.check_table.Statement.{statement}
 use Rattle.vetting.proofs.verdict.check_table.Tie as tie
@@ -20,12 +20,12 @@ is-accepted-requires c κs = search needs
 returns : tie.Need-returns
 returns c =
     let a = c .before .before .before .before .args in
-    let e = c .before .before .check-plan .ensures in
-    e ∙ first-decides (tableChecks (a .plan) (a .table .now)) (columnChecks (a .plan) (a .table .now)) (ap isAccepted (sym e) ∙ sym (c .before .is-accepted .ensures) ∙ not-true _ (c .if1 .taken))
+    let checked = c .before .before .check-plan in
+    first-answers (tableChecks (a .plan) (a .table .now)) (columnChecks (a .plan) (a .table .now)) (checked .result) (checked .ensures) (c .before .is-accepted .ensures) (c .if1 .taken)
 
 -- the checks accepted
 told : (c : tie.Else1) → (let a = c .before .before .before .before .args in accepted ≡ firstOf (tableChecks (a .plan) (a .table .now)))
-told c = accepted-code (c .before .before .check-plan .result) (sym (c .before .is-accepted .ensures) ∙ not-false _ (c .if1 .left)) ∙ c .before .before .check-plan .ensures
+told c = passes (c .before .before .check-plan .result) (c .before .before .check-plan .ensures) (c .before .is-accepted .ensures) (not-false _ (c .if1 .left))
 
 check-columns-requires : tie.Need-check-columns-requires
 check-columns-requires c κs =

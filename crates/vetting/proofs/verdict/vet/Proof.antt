@@ -1,14 +1,13 @@
 use borrow.Author.Needs.{needs}
-use borrow.Author.Tests.{not-true, not-false}
+use borrow.Author.Tests.{not-false}
 use mathlib.Core.Path.{_≡_, sym, ap, _∙_}
 use mathlib.Core.List.{map}
-use Rattle.refusals.specs.Codes.{accepted, verdictCode, isAccepted, firstOf}
-use Rattle.refusals.proofs.CodeLaws.{accepted-code}
+use Rattle.refusals.specs.Codes.{accepted, firstOf}
+use Rattle.refusals.proofs.Answers.{passes, first-answers}
 use Rattle.arithmetic.proofs.PrimeLaws.{prime-pos}
 use Rattle.vetting.specs.Walk.{pairs}
 use Rattle.vetting.specs.Verdict.{leakCheck, otherChecks, verdict, columnChecks}
 use Rattle.vetting.specs.Walking.{foundCode}
-use Rattle.refusals.proofs.Orders.{first-decides}
 use Rattle.vetting.proofs.VerdictLaws.{table-passed, columns-numbered, walk-verdict}
 use Rattle.vetting.proofs.verdict.vet.Statement.{statement}
 use Rattle.vetting.proofs.verdict.vet.Tie as tie
@@ -23,17 +22,12 @@ returns : tie.Need-returns
 returns c =
     let a = c .before .before .before .before .args in
     let P = a .plan in
-    let e = c .before .before .check-table .ensures in
-    e
-    ∙ first-decides (otherChecks P (a .table .now)) (map (leakCheck P (a .table .now)) (pairs (P .clusters) (P .size) (P .limit)))
-    (ap isAccepted (sym e) ∙ sym (c .before .is-accepted .ensures) ∙ not-true _ (c .if1 .taken))
+    let checked = c .before .before .check-table in
+    first-answers (otherChecks P (a .table .now)) (map (leakCheck P (a .table .now)) (pairs (P .clusters) (P .size) (P .limit))) (checked .result) (checked .ensures) (c .before .is-accepted .ensures) (c .if1 .taken)
 
 -- the checks accepted
-none : (c : tie.Else1) → accepted ≡ verdictCode (c .before .before .check-table .result)
-none c = accepted-code (c .before .before .check-table .result) (sym (c .before .is-accepted .ensures) ∙ not-false _ (c .if1 .left))
-
 told : (c : tie.Else1) → (let a = c .before .before .before .before .args in accepted ≡ firstOf (otherChecks (a .plan) (a .table .now)))
-told c = none c ∙ c .before .before .check-table .ensures
+told c = passes (c .before .before .check-table .result) (c .before .before .check-table .ensures) (c .before .is-accepted .ensures) (not-false _ (c .if1 .left))
 
 -- the code of what the walk found is the verdict
 found : (c : tie.After-find-leak) → (let a = c .before .before .before .before .before .args in foundCode (c .find-leak .result) ≡ verdict (a .plan) (a .table .now))
@@ -57,7 +51,11 @@ returns-2 : tie.Need-returns-2
 returns-2 c = sym (ap foundCode (c .before .pair .given .1)) ∙ found (c .before .before .before)
 
 returns-3 : tie.Need-returns-3
-returns-3 c = sym (none (c .before .before .before)) ∙ sym (ap foundCode (c .enum-told .given .1)) ∙ found (c .before .before)
+returns-3 c =
+    c .before .before .before .before .before .check-table .ensures
+    ∙ sym (told (c .before .before .before))
+    ∙ sym (ap foundCode (c .enum-told .given .1))
+    ∙ found (c .before .before)
 
 pub vet-spec : {M : Type 1} → statement M
 vet-spec =
