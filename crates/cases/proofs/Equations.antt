@@ -8,7 +8,7 @@ use Rattle.refusals.specs.Codes.{accepted, firstOf}
 use Rattle.arithmetic.specs.Field.{sumOf}
 use Rattle.arithmetic.proofs.Congruence.{residue-mod}
 use Rattle.matrices.specs.Linear.{at}
-use Rattle.secrecy.specs.Lists.{tab, joinTo}
+use Rattle.secrecy.specs.Lists.{tab}
 use Rattle.secrecy.specs.Model.{Pool, reading, key, upload}
 use Rattle.secrecy.proofs.ListLaws.{at-tab, length-tab, tab-cong}
 use Rattle.secrecy.proofs.RankCondition.{ZeroSum}

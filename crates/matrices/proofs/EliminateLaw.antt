@@ -1,6 +1,6 @@
 -- What elimination does to combinations of rows: afterwards a combination is 0 exactly where before it was in the span of the rows eliminated by.
 -- So after `eliminate` by row i, exactly where it was a multiple of row i.
-use mathlib.Core.Path.{_≡_, refl, sym, ap, _∙_}
+use mathlib.Core.Path.{_≡_, sym, ap, _∙_}
 use mathlib.Core.Logic.{_↔_}
 use mathlib.Core.List.{List, [], _∷_, _++_, map}
 use Prim.Native.Nat.{ℕ, zero, suc, _+_, _*_, _≤_, _<_}
@@ -9,7 +9,7 @@ use lib.ListN.{drop}
 use Rattle.arithmetic.specs.Primes.{Prime}
 use Rattle.arithmetic.proofs.PrimeLaws.{prime-pos}
 use Rattle.arithmetic.proofs.Congruence.{Cong, of-eq, c-refl, c-sym, c-trans, c-add, c-mul-left, cong-one, zero-not-one}
-use Rattle.matrices.specs.Linear.{at, All, Vector, dotN, zeros, combN, comb, InSpan}
+use Rattle.matrices.specs.Linear.{All, Vector, dotN, zeros, combN, comb, InSpan}
 use Rattle.matrices.specs.Tables.{rowOf, rowsOf, eliminated}
 use Rattle.matrices.proofs.Vectors.{dot-reduce, dot-zeros, dot-combined, el-zeros, vector-zeros, vector-comb}
 use Rattle.matrices.proofs.Spans.{comb-is, span-dot}

@@ -2,28 +2,28 @@
 -- list that is orthogonal to them stays, and every product of the new rows is one of the old rows with such a list. So nothing is ever solved for
 -- coefficients.
 use mathlib.Core.Path.{_≡_, refl, sym, ap, ap₂, _∙_, subst}
-use mathlib.Core.Bool.{Bool, true, false, cond}
-use mathlib.Core.Logic.{_↔_, ⊎-elim}
+use mathlib.Core.Bool.{Bool, cond}
+use mathlib.Core.Logic.{_↔_}
 use mathlib.Core.List.{List, [], _∷_, _++_, map, map-append, append-assoc}
 use Prim.Native.Nat.{ℕ, zero, suc, _+_, _-_, _*_, _%_, _≤_, _<_}
 use native.Mathlib.Nat.{mod-eq-of-lt, zero-mod}
 use native.Mathlib.Decide.{decLt}
 use native.Mathlib.Omega.{arith}
 use lib.Dec.{T, ltb}
-use lib.ListN.{length, take, drop}
+use lib.ListN.{length, drop}
 use borrow.Author.Tests.{lt-ltb, le-ltb}
 use Rattle.arithmetic.specs.Primes.{Prime, allBelow}
 use Rattle.arithmetic.specs.Field.{inverseOf}
 use Rattle.arithmetic.proofs.Searches.{T→true, not-T→false}
-use Rattle.arithmetic.proofs.Congruence.{Cong, to-mod, of-eq, of-rem, of-mod, c-refl, c-sym, c-trans, c-add, c-mul-left, c-mul-right, cong-zero, zero-cong, cong-one, zero-not-one}
+use Rattle.arithmetic.proofs.Congruence.{Cong, to-mod, of-eq, of-rem, c-refl, c-sym, c-trans, c-add, c-mul-left, c-mul-right, cong-one, zero-not-one}
 use Rattle.arithmetic.proofs.InverseLaws.{inverse-one}
-use Rattle.matrices.specs.Linear.{at, All, Vector, dotN, dot, add, scale, zeros, combN, comb, reduce, InSpan, Separated, Independent}
+use Rattle.matrices.specs.Linear.{at, All, Vector, dotN, add, scale, zeros, InSpan, Independent}
 use Rattle.matrices.specs.Rank.{inSpan, rankOver, rankOf}
 use Rattle.matrices.specs.Tables.{rowOf, rowsOf, pivotOf, cleared, pivotRow, hasPivot, clearedBy, eliminatedFrom, eliminated, pivotsFrom}
-use Rattle.matrices.proofs.Vectors.{all-append, all-left, all-right, all-snoc, all-map, dot-right}
+use Rattle.matrices.proofs.Vectors.{all-append, all-left, all-right, all-snoc, dot-right}
 use Rattle.matrices.proofs.Spans.{span-dot, in-span-iff}
 use Rattle.matrices.proofs.Duality.{orthogonal-cong, span-unless}
-use Rattle.matrices.proofs.Steps.{row-fits, rows-fit, rest-size, length-scaled, length-cleared, length-eliminated, pivot-is, no-pivot, some-pivot}
+use Rattle.matrices.proofs.Steps.{rows-fit, rest-size, length-scaled, length-cleared, length-eliminated, pivot-is, no-pivot, some-pivot}
 use Rattle.matrices.proofs.Rows.{pivot-nonzero, pivot-none, dot-scaled-row, dot-cleared, vector-cleared, vector-row, dot-pick, row-before, row-after, row-rest, row-eachRow, rows-from}
 
 -- a table of at most 48 rows and columns whose rows are symbols

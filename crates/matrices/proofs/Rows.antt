@@ -4,20 +4,20 @@ use mathlib.Core.Bool.{Bool, true, false, cond}
 use mathlib.Core.List.{List, [], _∷_, _++_}
 use Prim.Native.Nat.{ℕ, zero, suc, _+_, _-_, _*_, _%_, _≤_, _<_}
 use native.Mathlib.Nat.{mod-lt, suc-inj, mul-le-mul}
-use native.Mathlib.Decide.{ℕ-discrete, decLt}
+use native.Mathlib.Decide.{ℕ-discrete}
 use native.Mathlib.Omega.{arith}
 use lib.Dec.{eqb, T}
-use lib.ListN.{length, take, drop, length-drop, take-append-drop, List·getD-eq-default}
+use lib.ListN.{length, take, drop, length-drop, take-append-drop}
 use lib.Seq.{take-at, drop-append-add, drop-append-le, take-append-le, drop-drop, length-take-le, getD-take, getD-drop}
 use borrow.Author.Tests.{eq-eqb, ne-eqb}
-use Rattle.arithmetic.specs.Field.{residue, oppositeOf, inverseOf}
+use Rattle.arithmetic.specs.Field.{residue, oppositeOf}
 use Rattle.arithmetic.specs.Primes.{allBelow}
-use Rattle.arithmetic.proofs.Congruence.{Cong, of-eq, of-rem, c-refl, c-sym, c-trans, c-add, c-mul-left, c-mul-right, c-multiple, residue-mod, of-residue}
+use Rattle.arithmetic.proofs.Congruence.{Cong, of-eq, of-rem, c-refl, c-trans, c-add, c-mul-left, c-mul-right, residue-mod, of-residue}
 use Rattle.arithmetic.proofs.PrimeLaws.{below-at}
 use Rattle.matrices.specs.Linear.{at, Vector, dotN, zeros}
 use Rattle.matrices.specs.Tables.{rowOf, rowsOf, pivotOf, scaled, fused, cleared, eachRow}
 use Rattle.matrices.proofs.Vectors.{vector-nil, vector-cons}
-use Rattle.matrices.proofs.Steps.{row-fits, rows-fit, length-row, length-cleared}
+use Rattle.matrices.proofs.Steps.{row-fits, length-row}
 
 -- ---- the pivot
 

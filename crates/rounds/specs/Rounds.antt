@@ -1,11 +1,11 @@
 -- Rounds: what a step answers and what it hands back, for every state that can be handed in, good or bad. A round is what it was when it was handed
 -- in, and the ledger of the frames counted since; an opened round had nobody on its roll and sums of 0, so that it is its ledger alone.
 -- A relay (document 01: gateway) hears the users of its cluster, the server (desk) the relays; all else is said once, for both.
-use Prim.Native.Nat.{ℕ, zero, suc, _+_, _-_, _/_, _%_, _^_}
+use Prim.Native.Nat.{ℕ, suc, _+_, _-_, _/_, _%_, _^_}
 use mathlib.Core.Bool.{Bool, true, cond, not, _&&_, _||_}
 use mathlib.Core.List.{List, [], _∷_, _++_}
 use lib.Dec.{leb, ltb, eqb}
-use lib.ListN.{length, take, drop, replicate}
+use lib.ListN.{length, take, drop}
 use Rattle.refusals.specs.declared.Code.{Code}
 use Rattle.refusals.specs.Codes.{code, firstOf, ifAccepted}
 use Rattle.arithmetic.specs.Search.{allTo}

@@ -3,7 +3,7 @@ use mathlib.Core.Path.{_≡_, refl, sym, ap, _∙_}
 use mathlib.Core.Bool.{Bool, cond}
 use mathlib.Core.List.{List, [], _∷_, _++_, append-assoc}
 use Prim.Native.Nat.{ℕ, zero, suc, _+_, _*_, _%_, _≤_, _<_}
-use native.Mathlib.Nat.{zero-mod, mul-le-mul}
+use native.Mathlib.Nat.{mul-le-mul}
 use native.Mathlib.Numerals.{add-one}
 use native.Mathlib.Omega.{arith}
 use lib.Dec.{eqb}
@@ -11,8 +11,6 @@ use lib.ListN.{length, take, drop, set, length-append, length-drop}
 use lib.Seq.{length-take-le, take-at, take-suc-set}
 use borrow.Author.Tests.{eq-eqb}
 use borrow.Rule.Slice.PartMut.{same-len-mid}
-use Rattle.arithmetic.specs.Field.{sumOf}
-use Rattle.arithmetic.proofs.Congruence.{residue-mod, to-mod, c-add, c-refl, of-rem}
 use Rattle.secrecy.specs.Lists.{tab, joinTo}
 use Rattle.matrices.specs.Linear.{at}
 use Rattle.secrecy.specs.Counts.{sumTo}

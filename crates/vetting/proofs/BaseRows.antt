@@ -1,21 +1,17 @@
 -- The rows of the table that the walk starts from: the rows of the key table, and the sums of its clusters below them.
-use mathlib.Core.Path.{_≡_, refl, sym, ap, ap₂, _∙_, subst}
-use mathlib.Core.Bool.{true}
-use mathlib.Core.List.{List, [], _++_, append-nil}
-use Prim.Native.Nat.{ℕ, zero, suc, _+_, _-_, _*_, _%_, _≤_, _<_}
-use native.Mathlib.Nat.{mul-le-mul}
-use native.Mathlib.Decide.{ℕ-discrete, decLt}
+use mathlib.Core.Path.{_≡_, sym, ap, _∙_, subst}
+use mathlib.Core.List.{List, _++_}
+use Prim.Native.Nat.{ℕ, _+_, _-_, _*_, _%_, _≤_, _<_}
+use native.Mathlib.Decide.{decLt}
 use native.Mathlib.Omega.{arith}
-use lib.ListN.{length, take, drop, length-append, length-drop, List·getD-append}
-use lib.Seq.{take-at, drop-at, drop-append-le, drop-append-add, take-append-le, length-take-le, getD-take, getD-drop}
+use lib.ListN.{length, take, drop, length-append, length-drop}
+use lib.Seq.{drop-append-le, drop-append-add, take-append-le, getD-take, getD-drop}
 use Rattle.arithmetic.specs.Primes.{Prime}
-use Rattle.matrices.specs.Linear.{at, Vector, reduce}
+use Rattle.matrices.specs.Linear.{at, Vector}
 use Rattle.matrices.specs.Tables.{rowOf}
 use Rattle.matrices.proofs.Vectors.{el-reduce, length-reduce}
 use Rattle.matrices.proofs.Elimination.{Table}
 use Rattle.secrecy.specs.Lists.{tab, joinTo}
-use Rattle.secrecy.specs.Counts.{sumTo}
-use Rattle.secrecy.specs.Model.{Pool, users}
 use Rattle.secrecy.proofs.Sums.{sum-cong}
 use Rattle.secrecy.proofs.ListLaws.{at-tab, length-tab, tab-at}
 use Rattle.secrecy.proofs.Units.{addTo, el-addTo, length-addTo}

@@ -1,6 +1,6 @@
 -- The walk's test decides leaking: so the first pair that it finds is the first that leaks.
 use mathlib.Core.Path.{_≡_, refl, sym, ap, ap₂, _∙_, subst}
-use mathlib.Core.Logic.{_↔_, Dec·not-not}
+use mathlib.Core.Logic.{Dec·not-not}
 use mathlib.Core.Bool.{Bool, true, false, cond}
 use mathlib.Core.List.{List, [], _∷_, map}
 use Prim.Native.Nat.{ℕ, zero, suc, _+_, _*_, _^_, _≤_, _<_}
@@ -8,17 +8,16 @@ use native.Mathlib.Decide.{decLt}
 use native.Mathlib.Omega.{arith}
 use lib.Dec.{T}
 use lib.ListN.{length}
-use Rattle.refusals.specs.declared.Code.{Code}
-use Rattle.refusals.specs.Codes.{accepted, firstOf}
+use Rattle.refusals.specs.Codes.{firstOf}
 use Rattle.arithmetic.specs.Primes.{Prime, allBelow}
-use Rattle.arithmetic.proofs.Searches.{T-ext, T-decide, true→T, false→not-T}
+use Rattle.arithmetic.proofs.Searches.{T-ext, T-decide, true→T}
 use Rattle.arithmetic.proofs.PrimeLaws.{prime-pos, below-at}
 use Rattle.matrices.specs.Linear.{All, Vector, Independent}
 use Rattle.matrices.specs.Tables.{rowOf}
 use Rattle.matrices.proofs.Vectors.{all-map}
 use Rattle.matrices.proofs.Elimination.{Table}
 use Rattle.secrecy.specs.Model.{inCoalition, inCluster}
-use Rattle.secrecy.specs.Leaks.{leaks, PairLeak}
+use Rattle.secrecy.specs.Leaks.{leaks}
 use Rattle.secrecy.proofs.RankCondition.{outside, tested, row, sumRow, coalitionRows, watchedRows, ZeroSum}
 use Rattle.secrecy.proofs.Verdicts.{leaks-iff, pair-iff}
 use Rattle.vetting.specs.declared.Plan.{Plan}
@@ -27,7 +26,7 @@ use Rattle.vetting.specs.declared.Found.the-variants.{At}
 use Rattle.vetting.specs.Plans.{poolOf, usersOf, inBounds}
 use Rattle.vetting.specs.Walk.{pairs}
 use Rattle.vetting.specs.Verdict.{columnSum, leakCheck}
-use Rattle.vetting.specs.Walking.{baseTable, rowsIn, watchMask, chosen, hit, firstHit, walked, foundCode}
+use Rattle.vetting.specs.Walking.{baseTable, rowsIn, watchMask, hit, firstHit, walked, foundCode}
 use Rattle.vetting.proofs.BitLaws.{bit-above}
 use Rattle.vetting.proofs.PlanBounds.{Bounds, bounds-known}
 use Rattle.vetting.proofs.PairLists.{InWalk, pairs-in}

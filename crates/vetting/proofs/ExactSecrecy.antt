@@ -2,7 +2,6 @@
 -- some pair of coalition and observer leaks, and the refusal names the first such pair of the walk. (The vet's verdict is `verdict`, by its promise.)
 use mathlib.Core.Path.{_≡_, refl, sym, ap, _∙_, subst}
 use mathlib.Core.Logic.{_⊎_, inl, inr, ⊎-elim, _↔_}
-use mathlib.Core.Bool.{Bool, true, false, cond}
 use mathlib.Core.List.{List, [], _∷_, _++_, map}
 use Prim.Native.Nat.{ℕ, _*_, _≤_}
 use native.Mathlib.Omega.{arith}
@@ -23,7 +22,7 @@ use Rattle.vetting.specs.declared.Plan.{Plan}
 use Rattle.vetting.specs.declared.Pair.{Pair}
 use Rattle.vetting.specs.Plans.{poolOf, usersOf}
 use Rattle.vetting.specs.Walk.{pairs}
-use Rattle.vetting.specs.Verdict.{columnSum, leakCheck, otherChecks, vetChecks, verdict, columnChecks}
+use Rattle.vetting.specs.Verdict.{columnSum, leakCheck, otherChecks, verdict, columnChecks}
 use Rattle.refusals.proofs.Orders.{rest-decides, first-accepts}
 use Rattle.vetting.proofs.VerdictLaws.{table-passed, columns-numbered, columns-passed}
 pub use Rattle.vetting.proofs.PairLists.{InWalk, pairs-in, in-pairs}

@@ -1,20 +1,17 @@
 -- What is known of a plan and a key table that the vet accepts.
-use Prim.Native.Nat.{ℕ, _*_, _≤_}
+use Prim.Native.Nat.{ℕ, _*_}
 use mathlib.Core.Path.{_≡_}
-use mathlib.Core.Bool.{true, _&&_}
 use mathlib.Core.List.{List, map}
-use native.Mathlib.Nat.{mul-le-mul}
-use lib.Dec.{T, leb, leb→le, eqb}
+use lib.Dec.{T, eqb}
 use lib.ListN.{length}
 use borrow.Author.Tests.{not-false, eqb-true}
 use Rattle.refusals.specs.Codes.{accepted, firstOf}
 use Rattle.refusals.proofs.CodeLaws.{numbered, none-holds}
 use Rattle.arithmetic.specs.Primes.{Prime, isPrime}
-use Rattle.arithmetic.proofs.Searches.{T→true, true→T, T-and}
 use Rattle.arithmetic.proofs.PrimeLaws.{true-prime}
 use Rattle.secrecy.specs.Lists.{tab}
 use Rattle.vetting.specs.declared.Plan.{Plan}
-use Rattle.vetting.specs.Plans.{usersOf, countsFit, inBounds}
+use Rattle.vetting.specs.Plans.{usersOf, inBounds}
 use Rattle.vetting.specs.Walk.{pairs}
 use Rattle.vetting.specs.Verdict.{columnCheck, leakCheck, vetChecks}
 pub use Rattle.vetting.proofs.PlanBounds.{Counts, counts-known, some-users, Bounds, bounds-known, few-numbers}

@@ -3,7 +3,7 @@ use mathlib.Core.Path.{_≡_, refl, sym, ap, ap₂, _∙_, subst}
 use mathlib.Core.Logic.{_↔_}
 use mathlib.Core.Bool.{Bool, true, false, cond, not}
 use mathlib.Core.List.{List, [], _∷_, _++_, map, append-nil}
-use Prim.Native.Nat.{ℕ, zero, suc, _+_, _*_, _≤_, _<_}
+use Prim.Native.Nat.{ℕ, zero, suc, _+_, _≤_, _<_}
 use native.Mathlib.Decide.{ℕ-discrete}
 use native.Mathlib.Omega.{arith}
 use lib.Dec.{T, eqb}
@@ -13,8 +13,8 @@ use Rattle.arithmetic.specs.Primes.{Prime}
 use Rattle.arithmetic.proofs.PrimeLaws.{prime-pos}
 use Rattle.matrices.specs.Linear.{All, Vector, InSpan, Independent}
 use Rattle.matrices.specs.Rank.{rankOver, rankOf}
-use Rattle.matrices.specs.Tables.{rowOf, rowsOf, pivotsFrom}
-use Rattle.matrices.proofs.Vectors.{all-left, all-right, all-snoc, all-map}
+use Rattle.matrices.specs.Tables.{rowOf, pivotsFrom}
+use Rattle.matrices.proofs.Vectors.{all-left, all-right, all-snoc}
 use Rattle.matrices.proofs.Spans.{span-members}
 use Rattle.matrices.proofs.RankLaws.{full-rank-iff, rank-larger-span, rank-at-most}
 use Rattle.matrices.proofs.Elimination.{Table, Reduced, reduced-none, eliminated-table, eliminated-reduced, reduced-independent, pivots-are-rank, table-of}

@@ -1,9 +1,9 @@
 -- The verdict from its parts: what is known of a plan and a table that passed, and the columns.
-use mathlib.Core.Path.{_≡_, refl, sym, ap, _∙_}
-use mathlib.Core.Bool.{Bool, true, false, cond, not}
-use mathlib.Core.List.{List, [], _∷_, _++_, map}
+use mathlib.Core.Path.{_≡_, refl, ap, _∙_}
+use mathlib.Core.Bool.{Bool, true}
+use mathlib.Core.List.{List, _++_, map}
 use mathlib.Core.Logic.{_≢_}
-use Prim.Native.Nat.{ℕ, zero, suc, _+_, _*_, _%_, _^_, _≤_, _<_, suc-le-suc}
+use Prim.Native.Nat.{ℕ, zero, suc, _+_, _*_, _^_, _≤_, _<_, suc-le-suc}
 use native.Mathlib.Nat.{not-suc-le-zero, le-of-suc-le-suc, zero-lt-suc}
 use native.Mathlib.Decide.{decLt}
 use native.Mathlib.Omega.{arith}
@@ -11,13 +11,10 @@ use lib.Dec.{T, eqb}
 use lib.ListN.{length}
 use borrow.Author.Tests.{not-false, eqb-true, eq-eqb, ne-eqb}
 use Rattle.refusals.specs.declared.Code.{Code}
-use Rattle.refusals.specs.declared.Refusal.{Refusal}
-use Rattle.refusals.specs.Codes.{accepted, codeOf, firstOf, ifAccepted}
-use Rattle.refusals.proofs.CodeLaws.{numbered, NoneHolds, none-holds, refused-keeps, accepted-takes}
+use Rattle.refusals.specs.Codes.{accepted, firstOf}
+use Rattle.refusals.proofs.CodeLaws.{numbered, NoneHolds, none-holds}
 use Rattle.arithmetic.specs.Primes.{Prime, isPrime, allBelow}
-use Rattle.arithmetic.proofs.Searches.{T-and}
 use Rattle.arithmetic.proofs.PrimeLaws.{true-prime}
-use Rattle.matrices.specs.Linear.{at}
 use Rattle.secrecy.specs.Lists.{tab}
 use Rattle.secrecy.specs.Leaks.{leaks}
 use Rattle.vetting.specs.declared.Plan.{Plan}

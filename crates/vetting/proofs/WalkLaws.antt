@@ -20,7 +20,6 @@ use Rattle.secrecy.specs.Counts.{howMany}
 use Rattle.secrecy.specs.Model.{inCoalition}
 use Rattle.secrecy.proofs.ListLaws.{tab-cong}
 use Rattle.vetting.specs.declared.Pair.{Pair}
-use Rattle.vetting.specs.declared.Found.{Found}
 use Rattle.vetting.specs.declared.Found.the-variants.{At, Nothing}
 use Rattle.vetting.specs.Walk.{observers, pairs}
 use Rattle.vetting.specs.Walking.{levelAt, descended, reducedBy, tableOf, firstHit}

@@ -1,20 +1,19 @@
 -- The rows that the masks choose are those of the condition on ranks: a relay's users outside the coalition, and the sums of the open clusters
 -- before the last.
-use mathlib.Core.Path.{_≡_, refl, sym, ap, ap₂, _∙_, subst}
+use mathlib.Core.Path.{_≡_, refl, sym, ap, ap₂, _∙_}
 use mathlib.Core.Logic.{_⊎_, inl, inr}
 use mathlib.Core.Bool.{Bool, true, false, cond, not, _&&_, _||_, and-true, and-false, or-true, or-false}
 use mathlib.Core.List.{List, [], _∷_, _++_, append-nil}
 use Prim.Native.Nat.{ℕ, zero, suc, _+_, _-_, _*_, _/_, _%_, _^_, _≤_, _<_}
 use native.Mathlib.Nat.{mul-le-mul, div-div-eq-div-mul, div-add-mod', div-eq-of-lt-le, mod-lt}
-use native.Mathlib.Decide.{ℕ-discrete, decLt}
+use native.Mathlib.Decide.{decLt}
 use native.Mathlib.Omega.{arith}
-use lib.Dec.{lit<, T, eqb, ltb, leb, ltb→lt, lt→ltb}
+use lib.Dec.{lit<, eqb, ltb, leb, ltb→lt}
 use lib.Pow.{pow-add}
 use borrow.Author.Tests.{eq-eqb, ne-eqb, lt-ltb, le-ltb, le-leb, lt-leb}
 use Rattle.arithmetic.specs.Search.{anyTo, allTo}
-use Rattle.arithmetic.proofs.Searches.{T→true, true→T, T-ext, T-and, and-T, any-found, any-at, all-at, all-made, not-T→false}
+use Rattle.arithmetic.proofs.Searches.{T-and, any-found, not-T→false}
 use Rattle.secrecy.specs.Lists.{picked}
-use Rattle.secrecy.specs.Counts.{sumTo}
 use Rattle.secrecy.specs.Model.{Pool, users, inCoalition, inCluster}
 use Rattle.secrecy.proofs.RankCondition.{outside, opened, tested}
 use Rattle.vetting.specs.Walking.{chosen, clusterMask, openTo, openMask, testedMask, watchMask}

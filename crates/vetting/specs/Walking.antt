@@ -3,9 +3,9 @@
 -- rows of a coalition of k members.
 use Prim.Native.Nat.{ℕ, zero, suc, _+_, _-_, _*_, _/_, _%_, _^_}
 use mathlib.Core.Bool.{Bool, cond, not, _&&_}
-use mathlib.Core.List.{List, [], _∷_, _++_, map}
+use mathlib.Core.List.{List, [], _∷_, _++_}
 use lib.Dec.{eqb}
-use lib.ListN.{take, drop, set}
+use lib.ListN.{take, drop}
 use Rattle.matrices.specs.Linear.{at}
 use Rattle.matrices.specs.Tables.{rowOf, eliminated, pivotsFrom}
 use Rattle.secrecy.specs.Lists.{tab, joinTo, picked}

@@ -1,5 +1,5 @@
 use borrow.Author.Needs.{needs}
-use mathlib.Core.Path.{_≡_, ap, _∙_}
+use mathlib.Core.Path.{ap, _∙_}
 use Rattle.exports.specs.Packed.{packed}
 use Rattle.exports.proofs.kortyghai_upload.Statement.{statement}
 use Rattle.exports.proofs.kortyghai_upload.Tie as tie

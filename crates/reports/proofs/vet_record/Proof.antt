@@ -1,15 +1,14 @@
 use borrow.Author.Needs.{needs}
 use borrow.Author.Tests.{lt-ltb, le-ltb}
 use mathlib.Core.Path.{_≡_, sym, ap, ap₂, _∙_}
-use mathlib.Core.Bool.{Bool, true, false, cond}
+use mathlib.Core.Bool.{Bool, true, cond}
 use mathlib.Core.List.{List, _++_}
 use Prim.Native.Nat.{ℕ, _+_, _-_, _*_, _≤_}
 use native.Mathlib.Omega.{arith}
-use lib.Dec.{ltb}
 use lib.ListN.{length, take, length-append}
 use lib.Seq.{take-append-seam}
 use Rattle.refusals.specs.declared.Code.{Code}
-use Rattle.refusals.specs.Codes.{accepted, code, codeOf, firstOf}
+use Rattle.refusals.specs.Codes.{accepted, code, firstOf}
 use Rattle.refusals.proofs.CodeLaws.{accepted-takes}
 use Rattle.matrices.specs.Linear.{zeros}
 use Rattle.vetting.specs.declared.Plan.{Plan}

@@ -1,6 +1,5 @@
 use native.Mathlib.Omega.{arith}
 use native.Mathlib.Nat.{mod-eq-of-lt}
-use mathlib.Core.Path.{sym}
 use borrow.Author.Tests.{eq-eqb, ne-eqb}
 use Rattle.arithmetic.proofs.Sizes.{rem-small}
 use borrow.Author.Needs.{needs}

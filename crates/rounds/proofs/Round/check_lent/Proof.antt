@@ -1,5 +1,4 @@
 use Prim.Native.Nat.{suc}
-use mathlib.Core.Bool.{true}
 use mathlib.Core.Path.{_≡_, sym, _∙_}
 use mathlib.Core.List.{[]}
 use borrow.Author.Tests.{not-true, not-false, eq-eqb, ne-eqb}

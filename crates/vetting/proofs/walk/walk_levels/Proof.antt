@@ -1,18 +1,17 @@
 -- The walk's invariant: the tables of the coalitions above the one in hand stand on their levels, and the first hit of the pairs that are left is the
 -- first of all; the inner loop's: the same of the observers that are left.
 use mathlib.Core.Path.{_≡_, refl, sym, ap, _∙_, subst}
-use mathlib.Core.Bool.{Bool}
 use mathlib.Core.Logic.{⊎-elim}
-use mathlib.Core.List.{List, [], _∷_, _++_, map}
-use Prim.Native.Nat.{ℕ, suc, _+_, _-_, _*_, _%_, _^_, _≤_, _<_}
+use mathlib.Core.List.{List, _++_, map}
+use Prim.Native.Nat.{ℕ, _+_, _-_, _*_, _%_, _^_, _≤_, _<_}
 use native.Mathlib.Nat.{one-mul, pos-of-ne-zero, sub-zero, mod-lt}
 use native.Mathlib.Omega.{arith}
-use lib.Count.{ones, ones-le, trailingZeros, trailing-le}
+use lib.Count.{ones-le, trailing-le}
 use lib.Pow.{pow-pos, pow-mono}
-use lib.ListN.{length, take}
+use lib.ListN.{take}
 use Rattle.vetting.specs.declared.Pair.{Pair}
 use Rattle.vetting.specs.Plans.{plan}
-use Rattle.vetting.specs.Walk.{observers, pairs}
+use Rattle.vetting.specs.Walk.{observers}
 use Rattle.vetting.specs.Walking.{watchMask, dependent, tableOf, hit, firstHit, walked}
 use Rattle.vetting.proofs.BitLaws.{one-shl, low-ones}
 use Rattle.vetting.proofs.WalkLaws.{Holds, Full, to-next, full-none, full-skip, full-at, full-step, pairOf, observersFrom, observers-are, observers-next, observers-none, pairsFrom, pairs-are, pairs-kept, pairs-skipped, pairs-end, hit-first, miss-first, hit-none}
