@@ -92,7 +92,8 @@ pub extern "C" fn kortyghai_derive_keys(
     keys: &mut [Symbol],
 ) -> u64
     ensures code { λ r. ⌜ r ≡ packed (keyCode (plan clusters size limit rate q) (now (table .entry)) length (now (source .entry)) (now (keys .entry))) ⌝ }
-    ensures keys { λ _. ⌜ now (keys .exit) ≡ keysAfter (plan clusters size limit rate q) (now (table .entry)) length (now (source .entry)) (now (keys .entry)) ⌝ }
+    ensures keys { λ _. ⌜ now (keys .exit)
+        ≡ keysAfter (plan clusters size limit rate q) (now (table .entry)) length (now (source .entry)) (now (keys .entry)) ⌝ }
 {
     let plan = Plan {
         clusters,
@@ -150,9 +151,12 @@ pub extern "C" fn kortyghai_count_frame(
     said: u32,
     block: &[Symbol],
 ) -> u64
-    ensures answer { λ r. ⌜ r ≡ packed (frameCode clusters size q length cluster number (now (reported .entry)) (now (sums .entry)) (frame sender said (now (block .entry)))) ⌝ }
-    ensures bits { λ _. ⌜ now (reported .exit) ≡ frameNext clusters size q length cluster number (now (reported .entry)) (now (sums .entry)) (frame sender said (now (block .entry))) .reported ⌝ }
-    ensures totals { λ _. ⌜ now (sums .exit) ≡ frameNext clusters size q length cluster number (now (reported .entry)) (now (sums .entry)) (frame sender said (now (block .entry))) .sums ⌝ }
+    ensures answer { λ r. ⌜ r ≡ packed
+        (frameCode clusters size q length cluster number (now (reported .entry)) (now (sums .entry)) (frame sender said (now (block .entry)))) ⌝ }
+    ensures bits { λ _. ⌜ now (reported .exit)
+        ≡ frameNext clusters size q length cluster number (now (reported .entry)) (now (sums .entry)) (frame sender said (now (block .entry))) .reported ⌝ }
+    ensures totals { λ _. ⌜ now (sums .exit)
+        ≡ frameNext clusters size q length cluster number (now (reported .entry)) (now (sums .entry)) (frame sender said (now (block .entry))) .sums ⌝ }
 {
     let before = *sums;
     let round = Round {

@@ -31,7 +31,9 @@ fn key_symbol(q: Symbol, row: &[Symbol], symbols: &[Symbol]) -> Symbol
 // The keys of the user with this row, position by position.
 fn user_keys(q: Symbol, row: &[Symbol], source: &[Symbol], keys: &mut [Symbol])
     requires { ⌜ (0 < q) × (length (now source) ≡ length (now keys) * length (now row)) ⌝ }
-    ensures { λ _. ⌜ now (keys .exit) ≡ tab (length (now (keys .entry))) (λ p. sumTo (length (now (row .entry))) (λ k. at (now (row .entry)) k * at (now (source .entry)) (p * length (now (row .entry)) + k)) % q) ⌝ }
+    ensures { λ _. ⌜ now (keys .exit)
+        ≡ tab (length (now (keys .entry)))
+        (λ p. sumTo (length (now (row .entry))) (λ k. at (now (row .entry)) k * at (now (source .entry)) (p * length (now (row .entry)) + k)) % q) ⌝ }
 {
     let rate = row.len();
     let mut p = 0;
@@ -51,7 +53,8 @@ fn write_keys(
     source: &[Symbol],
     keys: &mut [Symbol],
 )
-    requires { ⌜ (0 < plan .q) × (usersOf plan ≤ 16) × (length (now table) ≡ usersOf plan * plan .rate) × (length (now source) ≡ positions * plan .rate) × (length (now keys) ≡ usersOf plan * positions) ⌝ }
+    requires { ⌜ (0 < plan .q) × (usersOf plan ≤ 16) × (length (now table) ≡ usersOf plan * plan .rate)
+        × (length (now source) ≡ positions * plan .rate) × (length (now keys) ≡ usersOf plan * positions) ⌝ }
     ensures { λ _. ⌜ now (keys .exit) ≡ keysOf plan (now (table .entry)) positions (now (source .entry)) ⌝ }
 {
     let q = plan.q;

@@ -95,7 +95,8 @@ fn column_sum(q: Symbol, rows: usize, cols: usize, k: usize, table: &[Symbol]) -
 // The last row, minus the sum of the others.
 fn fill_last(q: Symbol, rows: usize, cols: usize, table: &mut [Symbol])
     requires { ⌜ (0 < q) × (length (now table) ≡ (rows + 1) * cols) ⌝ }
-    ensures { λ _. ⌜ now (table .exit) ≡ take (rows * cols) (now (table .entry)) ++ tab cols (λ k. oppositeOf q (sumTo rows (λ i. at (now (table .entry)) (i * cols + k)) % q)) ⌝ }
+    ensures { λ _. ⌜ now (table .exit) ≡ take (rows * cols) (now (table .entry))
+        ++ tab cols (λ k. oppositeOf q (sumTo rows (λ i. at (now (table .entry)) (i * cols + k)) % q)) ⌝ }
 {
     let start = rows * cols;
     let mut k = 0;
@@ -109,7 +110,8 @@ fn fill_last(q: Symbol, rows: usize, cols: usize, table: &mut [Symbol])
 
 // The whole table of a plan that has the rate of its counts.
 fn fill_table(plan: Plan, generator: Symbol, table: &mut [Symbol])
-    requires { ⌜ (inBounds plan ≡ true) × (isPrime (plan .q) ≡ true) × (plan .rate ≡ rateOf (plan .clusters) (plan .size) (plan .limit)) × (length (now table) ≡ usersOf plan * plan .rate) ⌝ }
+    requires { ⌜ (inBounds plan ≡ true) × (isPrime (plan .q) ≡ true) × (plan .rate ≡ rateOf (plan .clusters) (plan .size) (plan .limit))
+        × (length (now table) ≡ usersOf plan * plan .rate) ⌝ }
     ensures { λ _. ⌜ now (table .exit) ≡ madeTable (plan .clusters) (plan .size) (plan .limit) (plan .q) generator ⌝ }
 {
     let q = plan.q;
@@ -127,9 +129,13 @@ fn write_vetted(
     built: &mut [Symbol],
     table: &mut [Symbol],
 ) -> Verdict
-    requires { ⌜ (inBounds plan ≡ true) × (isPrime (plan .q) ≡ true) × (plan .rate ≡ rateOf (plan .clusters) (plan .size) (plan .limit)) × (length (now built) ≡ usersOf plan * plan .rate) × (length (now table) ≡ usersOf plan * plan .rate) ⌝ }
-    ensures code { λ r. ⌜ verdictCode r ≡ firstOf (map (leakCheck plan (madeTable (plan .clusters) (plan .size) (plan .limit) (plan .q) generator)) (pairs (plan .clusters) (plan .size) (plan .limit))) ⌝ }
-    ensures table { λ r. ⌜ now (table .exit) ≡ ifAccepted (verdictCode r) (madeTable (plan .clusters) (plan .size) (plan .limit) (plan .q) generator) (now (table .entry)) ⌝ }
+    requires { ⌜ (inBounds plan ≡ true) × (isPrime (plan .q) ≡ true) × (plan .rate ≡ rateOf (plan .clusters) (plan .size) (plan .limit))
+        × (length (now built) ≡ usersOf plan * plan .rate) × (length (now table) ≡ usersOf plan * plan .rate) ⌝ }
+    ensures code { λ r. ⌜ verdictCode r
+        ≡ firstOf (map (leakCheck plan (madeTable (plan .clusters) (plan .size) (plan .limit) (plan .q) generator))
+        (pairs (plan .clusters) (plan .size) (plan .limit))) ⌝ }
+    ensures table { λ r. ⌜ now (table .exit)
+        ≡ ifAccepted (verdictCode r) (madeTable (plan .clusters) (plan .size) (plan .limit) (plan .q) generator) (now (table .entry)) ⌝ }
 {
     fill_table(plan, generator, built);
     let verdict = vet(plan, built);
@@ -141,9 +147,13 @@ fn write_vetted(
 
 // The same, with room to build in for the largest table.
 fn write_table(plan: Plan, generator: Symbol, table: &mut [Symbol]) -> Verdict
-    requires { ⌜ (inBounds plan ≡ true) × (isPrime (plan .q) ≡ true) × (plan .rate ≡ rateOf (plan .clusters) (plan .size) (plan .limit)) × (length (now table) ≡ usersOf plan * plan .rate) ⌝ }
-    ensures code { λ r. ⌜ verdictCode r ≡ firstOf (map (leakCheck plan (madeTable (plan .clusters) (plan .size) (plan .limit) (plan .q) generator)) (pairs (plan .clusters) (plan .size) (plan .limit))) ⌝ }
-    ensures table { λ r. ⌜ now (table .exit) ≡ ifAccepted (verdictCode r) (madeTable (plan .clusters) (plan .size) (plan .limit) (plan .q) generator) (now (table .entry)) ⌝ }
+    requires { ⌜ (inBounds plan ≡ true) × (isPrime (plan .q) ≡ true) × (plan .rate ≡ rateOf (plan .clusters) (plan .size) (plan .limit))
+        × (length (now table) ≡ usersOf plan * plan .rate) ⌝ }
+    ensures code { λ r. ⌜ verdictCode r
+        ≡ firstOf (map (leakCheck plan (madeTable (plan .clusters) (plan .size) (plan .limit) (plan .q) generator))
+        (pairs (plan .clusters) (plan .size) (plan .limit))) ⌝ }
+    ensures table { λ r. ⌜ now (table .exit)
+        ≡ ifAccepted (verdictCode r) (madeTable (plan .clusters) (plan .size) (plan .limit) (plan .q) generator) (now (table .entry)) ⌝ }
 {
     let m = table.len();
     let mut built = [0u16; 256];

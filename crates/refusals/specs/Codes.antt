@@ -6,7 +6,8 @@ use mathlib.Core.List.{List, [], _∷_}
 use lib.Dec.{eqb}
 use Rattle.refusals.specs.declared.Code.{Code}
 use Rattle.refusals.specs.declared.Refusal.{Refusal}
-use Rattle.refusals.specs.declared.Refusal.the-variants.{OutOfBounds, NotPrime, NotASymbol, WrongLength, BadTrailer, NotZeroSum, Leaks, UnknownNumber, BadBlockLength, LimitTooLarge, AlreadyReported, NotFull, StreamTooShort, OtherRound}
+use Rattle.refusals.specs.declared.Refusal.the-variants.{OutOfBounds, NotPrime, NotASymbol, WrongLength, BadTrailer, NotZeroSum, Leaks}
+use Rattle.refusals.specs.declared.Refusal.the-variants.{UnknownNumber, BadBlockLength, LimitTooLarge, AlreadyReported, NotFull, StreamTooShort, OtherRound}
 use Rattle.refusals.specs.declared.Verdict.{Verdict}
 use Rattle.refusals.specs.declared.Verdict.the-variants.{Accepted, Refused}
 

@@ -42,7 +42,8 @@ pub(crate) fn add_reduced(q: Symbol, a: Symbol, b: Symbol) -> Symbol
 
 // Position by position, by the same instructions whatever the symbols are.
 fn write_upload(q: Symbol, readings: &[Symbol], key: &[Symbol], out: &mut [Symbol])
-    requires { ⌜ (0 < q) × (length (now readings) ≡ length (now out)) × (length (now key) ≡ length (now out)) × T (allBelow q (now readings)) × T (allBelow q (now key)) ⌝ }
+    requires { ⌜ (0 < q) × (length (now readings) ≡ length (now out)) × (length (now key) ≡ length (now out)) × T (allBelow q (now readings))
+        × T (allBelow q (now key)) ⌝ }
     ensures { λ _. ⌜ now (out .exit) ≡ uploadOf q (length (now (out .entry))) (now (readings .entry)) (now (key .entry)) ⌝ }
 {
     let mut p = 0;
@@ -55,7 +56,8 @@ fn write_upload(q: Symbol, readings: &[Symbol], key: &[Symbol], out: &mut [Symbo
 }
 
 fn write_unmasked(q: Symbol, upload: &[Symbol], key: &[Symbol], out: &mut [Symbol])
-    requires { ⌜ (0 < q) × (length (now upload) ≡ length (now out)) × (length (now key) ≡ length (now out)) × T (allBelow q (now upload)) × T (allBelow q (now key)) ⌝ }
+    requires { ⌜ (0 < q) × (length (now upload) ≡ length (now out)) × (length (now key) ≡ length (now out)) × T (allBelow q (now upload))
+        × T (allBelow q (now key)) ⌝ }
     ensures { λ _. ⌜ now (out .exit) ≡ unmaskedOf q (length (now (out .entry))) (now (upload .entry)) (now (key .entry)) ⌝ }
 {
     let mut p = 0;

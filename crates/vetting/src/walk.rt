@@ -108,7 +108,8 @@ fn descend(q: Symbol, rows: usize, cols: usize, k: usize, i: usize, levels: &mut
 // Row i of a table is put at row n of another.
 fn copy_row(cols: usize, i: usize, n: usize, table: &[Symbol], out: &mut [Symbol])
     requires { ⌜ (i * cols + cols ≤ length (now table)) × (n * cols + cols ≤ length (now out)) ⌝ }
-    ensures { λ _. ⌜ now (out .exit) ≡ take (n * cols) (now (out .entry)) ++ (rowOf cols (now (table .entry)) i ++ drop (n * cols + cols) (now (out .entry))) ⌝ }
+    ensures { λ _. ⌜ now (out .exit) ≡ take (n * cols) (now (out .entry))
+        ++ (rowOf cols (now (table .entry)) i ++ drop (n * cols + cols) (now (out .entry))) ⌝ }
 {
     let a = i * cols;
     let ae = a + cols;
@@ -127,7 +128,8 @@ fn gather(
     out: &mut [Symbol],
 ) -> usize
     requires { ⌜ (rows ≤ 24) × (cols ≤ 16) × (rows * cols ≡ length (now table)) × (rows * cols ≤ length (now out)) ⌝ }
-    ensures { λ r. ⌜ (r ≡ howMany rows (chosen watch skip)) × (take (r * cols) (now (out .exit)) ≡ picked rows (chosen watch skip) (rowOf cols (now (table .entry)))) ⌝ }
+    ensures { λ r. ⌜ (r ≡ howMany rows (chosen watch skip))
+        × (take (r * cols) (now (out .exit)) ≡ picked rows (chosen watch skip) (rowOf cols (now (table .entry)))) ⌝ }
 {
     let mut n: usize = 0;
     let mut i: usize = 0;
@@ -170,7 +172,8 @@ fn leaks_to(
     levels: &[Symbol],
 ) -> bool
     requires { ⌜ (length (now levels) ≡ 6528) × (clusters ≤ 8) × (size ≤ 8) × (clusters * size ≤ 16) × (cols ≤ 16) × (w ≤ clusters) ⌝ }
-    ensures { λ r. ⌜ r ≡ dependent q (clusters * size + clusters) cols (watchMask clusters size g w) g (levelAt ((clusters * size + clusters) * cols) (now (levels .entry)) (ones g)) ⌝ }
+    ensures { λ r. ⌜ r ≡ dependent q (clusters * size + clusters) cols (watchMask clusters size g w) g
+        (levelAt ((clusters * size + clusters) * cols) (now (levels .entry)) (ones g)) ⌝ }
 {
     let rows = clusters * size + clusters;
     let watch = watch_mask(clusters as u32, size as u32, g as u32, w as u32);
@@ -282,7 +285,8 @@ fn sum_rows(
 // Level 0: the key table, and below it the sums of its clusters.
 fn set_base(plan: Plan, table: &[Symbol], levels: &mut [Symbol])
     requires { ⌜ (inBounds plan ≡ true) × (length (now table) ≡ usersOf plan * plan .rate) × (0 < plan .q) × (length (now levels) ≡ 6528) ⌝ }
-    ensures { λ _. ⌜ (length (now (levels .exit)) ≡ 6528) × (take ((usersOf plan + plan .clusters) * plan .rate) (now (levels .exit)) ≡ baseTable plan (now (table .entry))) ⌝ }
+    ensures { λ _. ⌜ (length (now (levels .exit)) ≡ 6528)
+        × (take ((usersOf plan + plan .clusters) * plan .rate) (now (levels .exit)) ≡ baseTable plan (now (table .entry))) ⌝ }
 {
     let n = plan.clusters * plan.size * plan.rate;
     let e = n + plan.clusters * plan.rate;
