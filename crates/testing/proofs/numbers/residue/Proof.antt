@@ -1,0 +1,16 @@
+use borrow.Author.Needs.{needs}
+use borrow.Author.Tests.{eq-eqb, ne-eqb}
+use Rattle.testing.proofs.numbers.residue.Statement.{statement}
+use Rattle.testing.proofs.numbers.residue.Tie as tie
+
+returns : tie.Need-returns
+returns c = simp (eq-eqb _ _ (c .if1 .taken))
+
+rem-result : tie.Need-rem-result
+rem-result c = search needs
+
+returns-2 : tie.Need-returns-2
+returns-2 c = simp (ne-eqb _ _ (c .if1 .left))
+
+pub residue-spec : {M : Type 1} → statement M
+residue-spec = tie.close (tie.spec returns rem-result returns-2)

@@ -1,0 +1,26 @@
+use borrow.Author.Needs.{needs}
+use mathlib.Core.Path.{sym}
+use lib.Seq.{set-out}
+use Rattle.testing.proofs.slices.put.Statement.{statement}
+use Rattle.testing.proofs.slices.put.Tie as tie
+
+narrow-requires : tie.Need-narrow-requires
+narrow-requires c κs = search needs
+
+mul-t : tie.Need-mul-t
+mul-t c = search needs
+
+slice-write-t : tie.Need-slice-write-t
+slice-write-t c = search needs
+
+same-length : tie.Need-same-length
+same-length c = search needs
+
+returns : tie.Need-returns
+returns c = cc (c .narrow .ensures)
+
+returns-2 : tie.Need-returns-2
+returns-2 c = sym (set-out (c .before .before .args .t .now) (c .before .before .args .i) _ (c .if1 .left))
+
+pub put-spec : {M : Type 1} → statement M
+put-spec = tie.close (tie.spec narrow-requires mul-t slice-write-t same-length returns returns-2)
