@@ -1,11 +1,4 @@
 // The table maker, for all counts up to one past the bounds: powers by repeated multiplication, and sums of whole columns.
-use crate::numbers::draw;
-use crate::numbers::mul_add;
-use crate::numbers::narrow;
-use crate::numbers::product;
-use crate::numbers::quotient;
-use crate::numbers::residue;
-use crate::numbers::seed;
 use crate::shapes::Shape;
 use crate::shapes::class;
 use crate::shapes::counts_fit;
@@ -16,16 +9,24 @@ use crate::shapes::symbols;
 use crate::shapes::users;
 use crate::shapes::verdict_said;
 use crate::shapes::wrong_length;
-use crate::slices::at;
-use crate::slices::fill;
 use crate::slices::is_filled;
-use crate::slices::is_padded;
-use crate::slices::put;
 use arithmetic::Symbol;
 use arithmetic::is_prime;
 use keys::make_table;
 use std::num::wrapping_add_usize;
 use std::num::wrapping_sub_usize;
+use testing::at;
+use testing::draw;
+use testing::fill;
+use testing::mul_add;
+use testing::narrow;
+use testing::power;
+use testing::product;
+use testing::put;
+use testing::quotient;
+use testing::residue;
+use testing::same;
+use testing::seed;
 use vetting::vet;
 
 // U and V from 0 to 9, T from 0 to 17, 12 moduli and 6 generators.
@@ -101,14 +102,6 @@ fn generator(number: usize) -> usize {
 pub fn length(number: usize) -> usize {
     let n = symbols(shape(number)) % 257;
     wrong_length(n, draw(seed(number), 16))
-}
-
-fn power(q: usize, a: usize, n: usize) -> usize {
-    let mut p = residue(1, q);
-    for k in 0..n {
-        p = residue(product(p, a), q);
-    }
-    p
 }
 
 // Symbol k of a row that is not the last: 1 and zeros, or powers of the generator's power.
@@ -189,7 +182,7 @@ pub fn made(number: usize, t: &mut [Symbol], other: &mut [Symbol]) -> usize {
     );
     let answer = planned_said(result, s);
     let buffers = if answer == 0 {
-        is_padded(t, other)
+        same(t, other)
     } else {
         is_filled(t, 65536, x)
     };
