@@ -8,8 +8,8 @@ use native.Mathlib.Omega.{arith}
 use lib.ListN.{length, set, length-set}
 use Rattle.arithmetic.specs.Search.{allTo}
 use Rattle.arithmetic.proofs.Searches.{not-T→false, false→not-T, all-at}
-use Rattle.testing.specs.Numbers.{howMany}
-use Rattle.testing.specs.Slices.{overwritten}
+use Rattle.testing.specs.Numbers.{mulAddOf, howMany}
+use Rattle.testing.specs.Slices.{at, overwritten, columnOf}
 
 module _ (f : ℕ → Bool) (i : ℕ) where
   pub counted : f i ≡ true → howMany (i + 1) f ≡ howMany i f + 1
@@ -37,3 +37,7 @@ module _ (f : ℕ → ℕ) (l : List ℕ) where
   unfolding overwritten
   length-written zero = refl
   length-written (suc n) = rw length-set (length-written n)
+
+pub column-next : (l : List ℕ) (i cols k : ℕ) → columnOf l (i + 1) cols k ≡ columnOf l i cols k + at l (mulAddOf k i cols)
+unfolding columnOf
+column-next l i cols k = rw (add-one i)

@@ -18,9 +18,12 @@ seedOf x = stepOf (stepOf (stepOf x))
 unfoldable pub drawOf : ℕ → ℕ → ℕ
 drawOf x n = residue n (x / 65536)
 
--- number i of 16 bits of the seed x
+-- number i of the seed x, of 32 bits and of 16
+unfoldable pub stateOf : ℕ → ℕ → ℕ
+stateOf x i = seedOf (x % 4294967296 + i % 65536 * 65537)
+
 unfoldable pub drawnOf : ℕ → ℕ → ℕ
-drawnOf x i = seedOf (x % 4294967296 + i % 65536 * 65537) / 65536 % 65536
+drawnOf x i = stateOf x i / 65536 % 65536
 
 -- how often n is in a; 0 where n is 0
 unfoldable pub quotientOf : ℕ → ℕ → ℕ

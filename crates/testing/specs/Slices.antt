@@ -6,7 +6,7 @@ use lib.Dec.{eqb, leb}
 use lib.ListN.{length, getD, set}
 use Rattle.arithmetic.specs.Field.{residue}
 use Rattle.arithmetic.specs.Search.{allTo}
-use Rattle.testing.specs.Numbers.{drawnOf, howMany}
+use Rattle.testing.specs.Numbers.{drawnOf, mulAddOf, howMany}
 
 -- the number at index i, 0 past the end
 abbrev pub at : List ℕ → ℕ → ℕ
@@ -35,3 +35,8 @@ sameFront s t = allTo (length s) (λ i. eqb (at s i) (at t i))
 -- how many are not below q
 unfoldable pub largeOf : ℕ → List ℕ → ℕ
 largeOf q l = howMany (length l) (λ i. leb q (at l i))
+
+-- the sum of column k of the first rows
+unfoldable pub columnOf : List ℕ → ℕ → ℕ → ℕ → ℕ
+columnOf l zero cols k = 0
+columnOf l (suc i) cols k = columnOf l i cols k + at l (mulAddOf k i cols)

@@ -2,7 +2,7 @@
 ghost use mathlib.Core.Path.{_≡_};
 ghost use Prim.Native.Nat.{_*_, _%_, _≤_};
 ghost use Rattle.arithmetic.specs.Field.{residue};
-ghost use Rattle.testing.specs.Numbers.{stepOf, seedOf, drawOf, drawnOf, quotientOf, lowProduct, mulAddOf, powerOf, divisorsOf, primeOf};
+ghost use Rattle.testing.specs.Numbers.{stepOf, seedOf, drawOf, stateOf, drawnOf, quotientOf, lowProduct, mulAddOf, powerOf, divisorsOf, primeOf};
 use arithmetic::Symbol;
 
 // The next state, of 32 bits: the upper half is mixed into the lower one, and by the product the lower into the upper, so that no two runs of states keep
@@ -28,11 +28,18 @@ pub fn draw(x: usize, n: usize) -> usize
     residue(x / 65536, n)
 }
 
-// Number i of 16 bits of the run that a seed stands for.
+// Number i of 32 bits of the run that a seed stands for. They are mixed and not counted on by a sum, so that no two have a fixed difference.
+pub fn state(x: usize, i: usize) -> usize
+    ensures { λ r. ⌜ r ≡ stateOf x i ⌝ }
+{
+    seed(x % 4294967296 + i % 65536 * 65537)
+}
+
+// The same of 16 bits.
 pub fn drawn(x: usize, i: usize) -> usize
     ensures { λ r. ⌜ r ≡ drawnOf x i ⌝ }
 {
-    seed(x % 4294967296 + i % 65536 * 65537) / 65536 % 65536
+    state(x, i) / 65536 % 65536
 }
 
 // What a leaves when divided by n; 0 where n is 0.

@@ -2,8 +2,9 @@
 ghost use mathlib.Core.Path.{_≡_};
 ghost use Prim.Native.Nat.{_%_};
 ghost use lib.ListN.{length, set};
-ghost use Rattle.testing.specs.Slices.{at, wordAt, filled, filledBytes, sameFront, largeOf};
+ghost use Rattle.testing.specs.Slices.{at, wordAt, filled, filledBytes, sameFront, largeOf, columnOf};
 use crate::numbers::drawn;
+use crate::numbers::mul_add;
 use crate::numbers::narrow;
 use crate::numbers::residue;
 use crate::numbers::wide;
@@ -94,4 +95,16 @@ pub fn count_large(t: &[Symbol], q: usize) -> usize
         }
     }
     n
+}
+
+// The sum of column k of a table, not reduced: of at most 65,535 rows, so that it fits.
+pub fn column_sum(t: &[Symbol], rows: usize, cols: usize, k: usize) -> usize
+    ensures { λ r. ⌜ r ≡ columnOf (now (t .entry)) (rows % 65536) cols k ⌝ }
+{
+    let n = rows % 65536;
+    let mut sum: usize = 0;
+    for i in 0..n {
+        sum += at(t, mul_add(k, i, cols));
+    }
+    sum
 }

@@ -13,12 +13,12 @@ loop-holds : tie.Need-loop-holds Inv-loop μ-loop
 loop-holds c = search needs
 
 -- src/expected.rt:51:29
-sub-column-sum : tie.Need-sub-column-sum Inv-loop μ-loop
-sub-column-sum c = search needs
+sub-sum : tie.Need-sub-sum Inv-loop μ-loop
+sub-sum c = search needs
 
 -- src/expected.rt:51:12
-column-sum-requires : tie.Need-column-sum-requires Inv-loop μ-loop
-column-sum-requires c κs = search needs
+sum-requires : tie.Need-sum-requires Inv-loop μ-loop
+sum-requires c κs = search needs
 
 -- src/expected.rt:54:9
 sub-k : tie.Need-sub-k Inv-loop μ-loop
@@ -43,8 +43,8 @@ wrong-column-spec =
     Inv-loop
     μ-loop
     loop-holds
-    sub-column-sum
-    column-sum-requires
+    sub-sum
+    sum-requires
     sub-k
     loop-less
     loop-again
