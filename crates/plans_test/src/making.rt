@@ -13,9 +13,8 @@ use crate::slices::is_filled;
 use arithmetic::Symbol;
 use arithmetic::is_prime;
 use keys::make_table;
-use std::num::wrapping_add_usize;
 use std::num::wrapping_sub_usize;
-use testing::at;
+use testing::column_sum;
 use testing::draw;
 use testing::fill;
 use testing::mul_add;
@@ -121,20 +120,16 @@ fn fill_rows(s: Shape, generator: usize, t: &mut [Symbol]) {
 }
 
 // The sum of column k, over all rows but the last.
-fn column_sum(s: Shape, t: &[Symbol], k: usize) -> usize {
+fn sum_above(s: Shape, t: &[Symbol], k: usize) -> usize {
     let n = wrapping_sub_usize(users(s), 1);
-    let mut sum: usize = 0;
-    for i in 0..n {
-        sum = wrapping_add_usize(sum, at(t, mul_add(k, i, s.rate)));
-    }
-    residue(sum, s.q)
+    residue(column_sum(t, n, s.rate, k), s.q)
 }
 
 fn fill_last(s: Shape, t: &mut [Symbol]) {
     let many = s.rate;
     let last = wrapping_sub_usize(users(s), 1);
     for k in 0..many {
-        let minus = wrapping_sub_usize(s.q, column_sum(s, t, k));
+        let minus = wrapping_sub_usize(s.q, sum_above(s, t, k));
         put(t, mul_add(k, last, many), residue(minus, s.q));
     }
 }

@@ -5,11 +5,11 @@ use mathlib.Core.Bool.{Bool, true, false}
 use mathlib.Core.List.{List}
 use native.Mathlib.Numerals.{add-one}
 use native.Mathlib.Omega.{arith}
-use lib.ListN.{length, set, length-set}
+use lib.ListN.{length, length-set}
 use Rattle.arithmetic.specs.Search.{allTo}
 use Rattle.arithmetic.proofs.Searches.{not-T→false, false→not-T, all-at}
 use Rattle.testing.specs.Numbers.{mulAddOf, howMany}
-use Rattle.testing.specs.Slices.{at, overwritten, columnOf}
+use Rattle.testing.specs.Slices.{at, replaced, overwritten, columnOf}
 
 module _ (f : ℕ → Bool) (i : ℕ) where
   pub counted : f i ≡ true → howMany (i + 1) f ≡ howMany i f + 1
@@ -29,12 +29,12 @@ module _ (f : ℕ → Bool) (i : ℕ) where
   fails n h e = not-T→false (allTo n f) (λ t. false→not-T (f i) e (all-at n f t i h))
 
 module _ (f : ℕ → ℕ) (l : List ℕ) where
-  pub written-next : (i : ℕ) → overwritten (i + 1) f l ≡ set (overwritten i f l) i (f i)
+  pub written-next : (i : ℕ) → overwritten (i + 1) f l ≡ replaced (overwritten i f l) i (f i)
   unfolding overwritten
   written-next i = rw add-one
 
   pub length-written : (n : ℕ) → length (overwritten n f l) ≡ length l
-  unfolding overwritten
+  unfolding overwritten replaced
   length-written zero = refl
   length-written (suc n) = rw length-set (length-written n)
 

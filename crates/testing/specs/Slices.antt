@@ -4,26 +4,29 @@ use mathlib.Core.Bool.{Bool}
 use mathlib.Core.List.{List}
 use lib.Dec.{eqb, leb}
 use lib.ListN.{length, getD, set}
-use Rattle.arithmetic.specs.Field.{residue}
 use Rattle.arithmetic.specs.Search.{allTo}
-use Rattle.testing.specs.Numbers.{drawnOf, mulAddOf, howMany}
+use Rattle.testing.specs.Numbers.{residueOf, low, mulAddOf, howMany, drawnOf}
 
 -- the number at index i, 0 past the end
-abbrev pub at : List ℕ → ℕ → ℕ
+unfoldable pub at : List ℕ → ℕ → ℕ
 at l i = getD l i 0
 
 -- two bytes, low first
-abbrev pub wordAt : List ℕ → ℕ → ℕ
+unfoldable pub wordAt : List ℕ → ℕ → ℕ
 wordAt b i = at b i + at b (i + 1) * 256
+
+-- the run with the number a at index i; past its end the run itself
+unfoldable pub replaced : List ℕ → ℕ → ℕ → List ℕ
+replaced l i a = set l i a
 
 -- the run with f 0, f 1, .., f (n - 1) written over its front
 unfoldable pub overwritten : ℕ → (ℕ → ℕ) → List ℕ → List ℕ
 overwritten zero f l = l
-overwritten (suc n) f l = set (overwritten n f l) n (f n)
+overwritten (suc n) f l = replaced (overwritten n f l) n (f n)
 
 -- the numbers of the seed x, below q
 unfoldable pub filled : ℕ → ℕ → List ℕ → List ℕ
-filled q x l = overwritten (length l) (λ i. residue q (drawnOf x i) % 65536) l
+filled q x l = overwritten (length l) (λ i. low (residueOf q (drawnOf x i))) l
 
 unfoldable pub filledBytes : ℕ → List ℕ → List ℕ
 filledBytes x l = overwritten (length l) (λ i. drawnOf x i % 256) l

@@ -1,8 +1,7 @@
 // Numbers drawn from a seed, and arithmetic on usize, which also counts places in tables.
 ghost use mathlib.Core.Path.{_≡_};
-ghost use Prim.Native.Nat.{_*_, _%_, _≤_};
-ghost use Rattle.arithmetic.specs.Field.{residue};
-ghost use Rattle.testing.specs.Numbers.{stepOf, seedOf, drawOf, stateOf, drawnOf, quotientOf, lowProduct, mulAddOf, powerOf, divisorsOf, primeOf};
+ghost use Prim.Native.Nat.{_*_, _≤_};
+ghost use Rattle.testing.specs.Numbers.{residueOf, quotientOf, low, lowProduct, mulAddOf, powerOf, divisorsOf, primeOf, stepOf, seedOf, drawOf, stateOf, drawnOf};
 use arithmetic::Symbol;
 
 // The next state, of 32 bits: the upper half is mixed into the lower one, and by the product the lower into the upper, so that no two runs of states keep
@@ -44,7 +43,7 @@ pub fn drawn(x: usize, i: usize) -> usize
 
 // What a leaves when divided by n; 0 where n is 0.
 pub fn residue(a: usize, n: usize) -> usize
-    ensures { λ r. ⌜ r ≡ residue n a ⌝ }
+    ensures { λ r. ⌜ r ≡ residueOf n a ⌝ }
 {
     if n == 0 {
         return 0;
@@ -123,7 +122,7 @@ pub fn wide(a: Symbol) -> usize
 }
 
 pub fn narrow(a: usize) -> Symbol
-    ensures { λ r. ⌜ r ≡ a % 65536 ⌝ }
+    ensures { λ r. ⌜ r ≡ low a ⌝ }
 {
     (a % 65536) as Symbol
 }

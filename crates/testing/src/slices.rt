@@ -1,8 +1,8 @@
 // Runs of symbols and of bytes. 0 past the end, so that no caller has to show that a place is inside; a write there changes nothing.
 ghost use mathlib.Core.Path.{_≡_};
 ghost use Prim.Native.Nat.{_%_};
-ghost use lib.ListN.{length, set};
-ghost use Rattle.testing.specs.Slices.{at, wordAt, filled, filledBytes, sameFront, largeOf, columnOf};
+ghost use Rattle.testing.specs.Numbers.{low};
+ghost use Rattle.testing.specs.Slices.{at, wordAt, replaced, filled, filledBytes, sameFront, largeOf, columnOf};
 use crate::numbers::drawn;
 use crate::numbers::mul_add;
 use crate::numbers::narrow;
@@ -23,7 +23,7 @@ pub fn at(t: &[Symbol], i: usize) -> usize
 }
 
 pub fn put(t: &mut [Symbol], i: usize, a: usize)
-    ensures { λ _. ⌜ now (t .exit) ≡ set (now (t .entry)) i (a % 65536) ⌝ }
+    ensures { λ _. ⌜ now (t .exit) ≡ replaced (now (t .entry)) i (low a) ⌝ }
 {
     if i < t.len() {
         t[i] = narrow(a);
@@ -37,7 +37,7 @@ pub fn byte_at(b: &[u8], i: usize) -> usize
 }
 
 pub fn put_byte(b: &mut [u8], i: usize, a: usize)
-    ensures { λ _. ⌜ now (b .exit) ≡ set (now (b .entry)) i (a % 256) ⌝ }
+    ensures { λ _. ⌜ now (b .exit) ≡ replaced (now (b .entry)) i (a % 256) ⌝ }
 {
     if i < b.len() {
         b[i] = (a % 256) as u8;

@@ -24,8 +24,8 @@ loop-holds : tie.Need-loop-holds Inv-loop μ-loop
 loop-holds c = search needs
 
 -- src/making.rt:144:45
-column-sum-requires : tie.Need-column-sum-requires Inv-loop μ-loop
-column-sum-requires c κs = search needs
+sum-above-requires : tie.Need-sum-above-requires Inv-loop μ-loop
+sum-above-requires c κs = search needs
 
 -- src/making.rt:144:13
 wrapping-sub-usize-requires-2 : tie.Need-wrapping-sub-usize-requires-2 Inv-loop μ-loop
@@ -72,7 +72,7 @@ fill-last-spec =
     users-requires
     wrapping-sub-usize-requires
     loop-holds
-    column-sum-requires
+    sum-above-requires
     wrapping-sub-usize-requires-2
     mul-add-requires
     residue-requires

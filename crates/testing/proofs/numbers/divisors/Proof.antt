@@ -7,14 +7,13 @@ use mathlib.Core.Logic.{⊎-elim}
 use Prim.Native.Nat.{ℕ, _≤_, _-_, _+_}
 use lib.Dec.{eqb}
 use native.Mathlib.Omega.{arith}
-use Rattle.arithmetic.specs.Field.{residue}
-use Rattle.testing.specs.Numbers.{divisorsOf, howMany}
+use Rattle.testing.specs.Numbers.{residueOf, divisorsOf, howMany}
 use Rattle.testing.proofs.Loops.{counted, passed-over}
 use Rattle.testing.proofs.numbers.divisors.Statement.{statement}
 use Rattle.testing.proofs.numbers.divisors.Tie as tie
 
 abbrev Inv-loop : tie.InvT-loop
-Inv-loop q n₀ d₀ n d = (d ≤ q) × (n ≤ d) × (n ≡ howMany d (λ e. eqb (residue (e + 1) q) 0))
+Inv-loop q n₀ d₀ n d = (d ≤ q) × (n ≤ d) × (n ≡ howMany d (λ e. eqb (residueOf (e + 1) q) 0))
 
 abbrev μ-loop : tie.MeasureT-loop
 μ-loop q n₀ d₀ n d = q - d
@@ -42,7 +41,7 @@ loop-again : tie.Need-loop-again Inv-loop μ-loop
 loop-again c =
     let s = c .before .before .before .loop in
     let q : ℕ = c .before .before .before .before .args .q in
-    let f : ℕ → Bool = λ e. eqb (residue (e + 1) q) 0 in
+    let f : ℕ → Bool = λ e. eqb (residueOf (e + 1) q) 0 in
     let m : s .n ≡ howMany (s .d) f = s .inv .2 in
     ⊎-elim
     (λ w.
@@ -59,7 +58,7 @@ returns : tie.Need-returns Inv-loop μ-loop
 unfolding divisorsOf
 returns c =
     let e : c .before .loop .d ≡ c .before .before .args .q = omega arith in
-    c .before .loop .inv .2 ∙ ap (λ (n : ℕ). howMany n (λ d. eqb (residue (d + 1) (c .before .before .args .q)) 0)) e
+    c .before .loop .inv .2 ∙ ap (λ (n : ℕ). howMany n (λ d. eqb (residueOf (d + 1) (c .before .before .args .q)) 0)) e
 
 pub divisors-spec : {M : Type 1} → statement M
 divisors-spec =

@@ -1,6 +1,7 @@
 use borrow.Author.Needs.{needs}
 use mathlib.Core.Path.{sym}
 use lib.ListN.{List·getD-eq-default}
+use Rattle.testing.specs.Slices.{at}
 use Rattle.testing.proofs.slices.at.Statement.{statement}
 use Rattle.testing.proofs.slices.at.Tie as tie
 
@@ -14,9 +15,11 @@ wide-requires : tie.Need-wide-requires
 wide-requires c κs = search needs
 
 returns : tie.Need-returns
+unfolding at
 returns c = search needs
 
 returns-2 : tie.Need-returns-2
+unfolding at
 returns-2 c = sym (List·getD-eq-default (c .before .before .args .t .now) 0 (c .if1 .left))
 
 pub at-spec : {M : Type 1} → statement M

@@ -27,6 +27,7 @@ at-requires : tie.Need-at-requires Inv-loop μ-loop
 at-requires c κs = search needs
 
 add-sum : tie.Need-add-sum Inv-loop μ-loop
+unfolding at
 add-sum c = omega (arith, c .before .before .before .before .shared-slice-known .given (c .before .mul-add .result))
 
 add-i : tie.Need-add-i Inv-loop μ-loop
@@ -36,6 +37,7 @@ loop-less : tie.Need-loop-less Inv-loop μ-loop
 loop-less c = search needs
 
 loop-again : tie.Need-loop-again Inv-loop μ-loop
+unfolding at
 loop-again c =
     let a = c .before .before .before .before .before .args in
     let s = c .before .before .before .loop in

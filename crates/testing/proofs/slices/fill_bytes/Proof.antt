@@ -4,9 +4,9 @@ use mathlib.Core.Path.{_≡_, refl, sym, ap, ap₂, _∙_}
 use mathlib.Core.List.{List}
 use Prim.Native.Nat.{ℕ, _≤_, _-_, _%_}
 use native.Mathlib.Omega.{arith}
-use lib.ListN.{length, set}
+use lib.ListN.{length}
 use Rattle.testing.specs.Numbers.{drawnOf}
-use Rattle.testing.specs.Slices.{overwritten, filledBytes}
+use Rattle.testing.specs.Slices.{replaced, overwritten, filledBytes}
 use Rattle.testing.proofs.Loops.{written-next, length-written}
 use Rattle.testing.proofs.slices.fill_bytes.Statement.{statement}
 use Rattle.testing.proofs.slices.fill_bytes.Tie as tie
@@ -40,7 +40,7 @@ loop-again c =
     let f : ℕ → ℕ = λ k. drawnOf (a .x) k % 256 in
     let number : c .before .before .before .drawn .result ≡ drawnOf (a .x) (s .i) = c .before .before .before .drawn .ensures in
     let list : s .b ≡ overwritten (s .i) f (a .b .now) = s .inv .2 in
-    (omega arith, refl, c .before .before .put-byte .ensures ∙ ap₂ (λ (l : List ℕ) (v : ℕ). set l (s .i) (v % 256)) list number ∙ sym (written-next f (a .b .now) (s .i)))
+    (omega arith, refl, c .before .before .put-byte .ensures ∙ ap₂ (λ (l : List ℕ) (v : ℕ). replaced l (s .i) (v % 256)) list number ∙ sym (written-next f (a .b .now) (s .i)))
 
 same-length : tie.Need-same-length Inv-loop μ-loop
 same-length c = rw (c .before .loop .inv .2) (length-written _ _ _)

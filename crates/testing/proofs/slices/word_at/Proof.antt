@@ -4,10 +4,12 @@ use mathlib.Core.List.{List}
 use Prim.Native.Nat.{ℕ, _+_}
 use native.Mathlib.Omega.{arith}
 use lib.ListN.{List·getD-eq-default}
+use Rattle.testing.specs.Slices.{at, wordAt}
 use Rattle.testing.proofs.slices.word_at.Statement.{statement}
 use Rattle.testing.proofs.slices.word_at.Tie as tie
 
 returns : tie.Need-returns
+unfolding at wordAt
 returns c =
     let b : List ℕ = c .before .before .args .b .now in
     let i : ℕ = c .before .before .args .i in
@@ -23,16 +25,19 @@ byte-at-requires-2 : tie.Need-byte-at-requires-2
 byte-at-requires-2 c κs = search needs
 
 mul-result : tie.Need-mul-result
+unfolding at
 mul-result c =
     let s = c .before .before .before in
     omega (arith, s .shared-slice-known .given (s .before .args .i + 1))
 
 add-result : tie.Need-add-result
+unfolding at
 add-result c =
     let s = c .before .before .before in
     omega (arith, s .shared-slice-known .given (s .before .args .i), s .shared-slice-known .given (s .before .args .i + 1))
 
 returns-2 : tie.Need-returns-2
+unfolding wordAt
 returns-2 c = search needs
 
 pub word-at-spec : {M : Type 1} → statement M
