@@ -22,21 +22,6 @@ loop-holds : tie.Need-loop-holds Inv-loop μ-loop
 unfolding howMany
 loop-holds c = (omega arith, omega arith, refl)
 
-add-residue : tie.Need-add-residue Inv-loop μ-loop
-add-residue c = search needs
-
-residue-requires : tie.Need-residue-requires Inv-loop μ-loop
-residue-requires c κs = search needs
-
-add-n : tie.Need-add-n Inv-loop μ-loop
-add-n c = search needs
-
-add-d : tie.Need-add-d Inv-loop μ-loop
-add-d c = search needs
-
-loop-less : tie.Need-loop-less Inv-loop μ-loop
-loop-less c = search needs
-
 loop-again : tie.Need-loop-again Inv-loop μ-loop
 loop-again c =
     let s = c .before .before .before .loop in
@@ -67,10 +52,10 @@ divisors-spec =
     Inv-loop
     μ-loop
     loop-holds
-    add-residue
-    residue-requires
-    add-n
-    add-d
-    loop-less
+    (search needs)
+    (search needs)
+    (search needs)
+    (search needs)
+    (search needs)
     loop-again
     returns)

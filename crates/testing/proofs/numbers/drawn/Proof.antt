@@ -3,12 +3,9 @@ use Rattle.testing.specs.Numbers.{drawnOf}
 use Rattle.testing.proofs.numbers.drawn.Statement.{statement}
 use Rattle.testing.proofs.numbers.drawn.Tie as tie
 
-state-requires : tie.Need-state-requires
-state-requires c κs = search needs
-
 returns : tie.Need-returns
 unfolding drawnOf
 returns c = cc
 
 pub drawn-spec : {M : Type 1} → statement M
-drawn-spec = tie.close (tie.spec state-requires returns)
+drawn-spec = tie.close (tie.spec (search needs) returns)

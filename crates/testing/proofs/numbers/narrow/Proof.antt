@@ -4,12 +4,9 @@ use borrow.Author.Needs.{needs}
 use Rattle.testing.proofs.numbers.narrow.Statement.{statement}
 use Rattle.testing.proofs.numbers.narrow.Tie as tie
 
-cast-result : tie.Need-cast-result
-cast-result c = search needs
-
 returns : tie.Need-returns
 unfolding low
 returns c = refl
 
 pub narrow-spec : {M : Type 1} → statement M
-narrow-spec = tie.close (tie.spec cast-result returns)
+narrow-spec = tie.close (tie.spec (search needs) returns)

@@ -14,24 +14,9 @@ Inv-loop q a n p₀ k₀ p k = (k ≤ n) × (p ≡ powerOf q a k)
 abbrev μ-loop : tie.MeasureT-loop
 μ-loop q a n p₀ k₀ p k = n - k
 
-residue-requires : tie.Need-residue-requires Inv-loop μ-loop
-residue-requires c κs = search needs
-
 loop-holds : tie.Need-loop-holds Inv-loop μ-loop
 unfolding powerOf
 loop-holds c = (omega arith, c .residue .ensures)
-
-product-requires : tie.Need-product-requires Inv-loop μ-loop
-product-requires c κs = search needs
-
-residue-requires-2 : tie.Need-residue-requires-2 Inv-loop μ-loop
-residue-requires-2 c κs = search needs
-
-add-k : tie.Need-add-k Inv-loop μ-loop
-add-k c = search needs
-
-loop-less : tie.Need-loop-less Inv-loop μ-loop
-loop-less c = search needs
 
 loop-again : tie.Need-loop-again Inv-loop μ-loop
 unfolding powerOf
@@ -48,11 +33,11 @@ power-spec =
     (tie.spec
     Inv-loop
     μ-loop
-    residue-requires
+    (search needs)
     loop-holds
-    product-requires
-    residue-requires-2
-    add-k
-    loop-less
+    (search needs)
+    (search needs)
+    (search needs)
+    (search needs)
     loop-again
     returns)

@@ -8,12 +8,9 @@ returns : tie.Need-returns
 unfolding quotientOf
 returns c = simp (eq-eqb _ _ (c .if1 .taken))
 
-div-result : tie.Need-div-result
-div-result c = search needs
-
 returns-2 : tie.Need-returns-2
 unfolding quotientOf
 returns-2 c = simp (ne-eqb _ _ (c .if1 .left))
 
 pub quotient-spec : {M : Type 1} → statement M
-quotient-spec = tie.close (tie.spec returns div-result returns-2)
+quotient-spec = tie.close (tie.spec returns (search needs) returns-2)

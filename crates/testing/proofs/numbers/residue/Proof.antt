@@ -8,12 +8,9 @@ returns : tie.Need-returns
 unfolding residueOf
 returns c = simp (eq-eqb _ _ (c .if1 .taken))
 
-rem-result : tie.Need-rem-result
-rem-result c = search needs
-
 returns-2 : tie.Need-returns-2
 unfolding residueOf
 returns-2 c = simp (ne-eqb _ _ (c .if1 .left))
 
 pub residue-spec : {M : Type 1} → statement M
-residue-spec = tie.close (tie.spec returns rem-result returns-2)
+residue-spec = tie.close (tie.spec returns (search needs) returns-2)

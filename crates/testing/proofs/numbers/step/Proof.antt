@@ -4,15 +4,9 @@ use Rattle.testing.specs.Numbers.{stepOf}
 use Rattle.testing.proofs.numbers.step.Statement.{statement}
 use Rattle.testing.proofs.numbers.step.Tie as tie
 
-mul-result : tie.Need-mul-result
-mul-result c = search needs
-
-add-result : tie.Need-add-result
-add-result c = search needs
-
 returns : tie.Need-returns
 unfolding stepOf
 returns c = refl
 
 pub step-spec : {M : Type 1} → statement M
-step-spec = tie.close (tie.spec mul-result add-result returns)
+step-spec = tie.close (tie.spec (search needs) (search needs) returns)

@@ -5,15 +5,6 @@ use Rattle.testing.specs.Slices.{at}
 use Rattle.testing.proofs.slices.at.Statement.{statement}
 use Rattle.testing.proofs.slices.at.Tie as tie
 
-mul-wide : tie.Need-mul-wide
-mul-wide c = search needs
-
-shared-slice-read-wide : tie.Need-shared-slice-read-wide
-shared-slice-read-wide c = search needs
-
-wide-requires : tie.Need-wide-requires
-wide-requires c κs = search needs
-
 returns : tie.Need-returns
 unfolding at
 returns c = search needs
@@ -23,4 +14,4 @@ unfolding at
 returns-2 c = sym (List·getD-eq-default (c .before .before .args .t .now) 0 (c .if1 .left))
 
 pub at-spec : {M : Type 1} → statement M
-at-spec = tie.close (tie.spec mul-wide shared-slice-read-wide wide-requires returns returns-2)
+at-spec = tie.close (tie.spec (search needs) (search needs) (search needs) returns returns-2)

@@ -5,12 +5,6 @@ use Rattle.testing.specs.Slices.{at}
 use Rattle.testing.proofs.slices.byte_at.Statement.{statement}
 use Rattle.testing.proofs.slices.byte_at.Tie as tie
 
-shared-slice-read-wide8 : tie.Need-shared-slice-read-wide8
-shared-slice-read-wide8 c = search needs
-
-wide8-requires : tie.Need-wide8-requires
-wide8-requires c κs = search needs
-
 returns : tie.Need-returns
 unfolding at
 returns c = search needs
@@ -20,4 +14,4 @@ unfolding at
 returns-2 c = sym (List·getD-eq-default (c .before .before .args .b .now) 0 (c .if1 .left))
 
 pub byte-at-spec : {M : Type 1} → statement M
-byte-at-spec = tie.close (tie.spec shared-slice-read-wide8 wide8-requires returns returns-2)
+byte-at-spec = tie.close (tie.spec (search needs) (search needs) returns returns-2)

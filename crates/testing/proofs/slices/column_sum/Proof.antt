@@ -20,21 +20,9 @@ loop-holds : tie.Need-loop-holds Inv-loop μ-loop
 unfolding columnOf
 loop-holds c = (omega arith, omega arith, omega arith, refl)
 
-mul-add-requires : tie.Need-mul-add-requires Inv-loop μ-loop
-mul-add-requires c κs = search needs
-
-at-requires : tie.Need-at-requires Inv-loop μ-loop
-at-requires c κs = search needs
-
 add-sum : tie.Need-add-sum Inv-loop μ-loop
 unfolding at
 add-sum c = omega (arith, c .before .before .before .before .shared-slice-known .given (c .before .mul-add .result))
-
-add-i : tie.Need-add-i Inv-loop μ-loop
-add-i c = search needs
-
-loop-less : tie.Need-loop-less Inv-loop μ-loop
-loop-less c = search needs
 
 loop-again : tie.Need-loop-again Inv-loop μ-loop
 unfolding at
@@ -61,10 +49,10 @@ column-sum-spec =
     Inv-loop
     μ-loop
     loop-holds
-    mul-add-requires
-    at-requires
+    (search needs)
+    (search needs)
     add-sum
-    add-i
-    loop-less
+    (search needs)
+    (search needs)
     loop-again
     returns)

@@ -5,18 +5,6 @@ use Rattle.testing.specs.Slices.{replaced}
 use Rattle.testing.proofs.slices.put.Statement.{statement}
 use Rattle.testing.proofs.slices.put.Tie as tie
 
-narrow-requires : tie.Need-narrow-requires
-narrow-requires c κs = search needs
-
-mul-t : tie.Need-mul-t
-mul-t c = search needs
-
-slice-write-t : tie.Need-slice-write-t
-slice-write-t c = search needs
-
-same-length : tie.Need-same-length
-same-length c = search needs
-
 returns : tie.Need-returns
 unfolding replaced
 returns c = cc (c .narrow .ensures)
@@ -26,4 +14,4 @@ unfolding replaced
 returns-2 c = sym (set-out (c .before .before .args .t .now) (c .before .before .args .i) _ (c .if1 .left))
 
 pub put-spec : {M : Type 1} → statement M
-put-spec = tie.close (tie.spec narrow-requires mul-t slice-write-t same-length returns returns-2)
+put-spec = tie.close (tie.spec (search needs) (search needs) (search needs) (search needs) returns returns-2)

@@ -5,15 +5,6 @@ use Rattle.testing.specs.Slices.{replaced}
 use Rattle.testing.proofs.slices.put_byte.Statement.{statement}
 use Rattle.testing.proofs.slices.put_byte.Tie as tie
 
-cast-b : tie.Need-cast-b
-cast-b c = search needs
-
-slice-write-b : tie.Need-slice-write-b
-slice-write-b c = search needs
-
-same-length : tie.Need-same-length
-same-length c = search needs
-
 returns : tie.Need-returns
 unfolding replaced
 returns c = search needs
@@ -23,4 +14,4 @@ unfolding replaced
 returns-2 c = sym (set-out (c .before .args .b .now) (c .before .args .i) _ (c .if1 .left))
 
 pub put-byte-spec : {M : Type 1} → statement M
-put-byte-spec = tie.close (tie.spec cast-b slice-write-b same-length returns returns-2)
+put-byte-spec = tie.close (tie.spec (search needs) (search needs) (search needs) returns returns-2)

@@ -23,24 +23,12 @@ loop-holds : tie.Need-loop-holds Inv-loop μ-loop
 unfolding allTo
 loop-holds c = (omega arith, refl)
 
-at-requires : tie.Need-at-requires Inv-loop μ-loop
-at-requires c κs = search needs
-
-at-requires-2 : tie.Need-at-requires-2 Inv-loop μ-loop
-at-requires-2 c κs = search needs
-
 returns : tie.Need-returns Inv-loop μ-loop
 unfolding sameFront
 returns c =
     let a = c .before .before .before .before .before .before .before .args in
     let f : ℕ → Bool = λ k. eqb (at (a .s .now) k) (at (a .t .now) k) in
     sym (fails f (c .before .before .before .before .loop .i) (length (a .s .now)) (c .before .before .before .loop-test .taken) (ne-eqb _ _ (λ z. c .if1 .taken (c .before .before .at .ensures ∙ z ∙ sym (c .before .at2 .ensures)))))
-
-add-i : tie.Need-add-i Inv-loop μ-loop
-add-i c = search needs
-
-loop-less : tie.Need-loop-less Inv-loop μ-loop
-loop-less c = search needs
 
 loop-again : tie.Need-loop-again Inv-loop μ-loop
 loop-again c =
@@ -63,10 +51,10 @@ same-spec =
     Inv-loop
     μ-loop
     loop-holds
-    at-requires
-    at-requires-2
+    (search needs)
+    (search needs)
     returns
-    add-i
-    loop-less
+    (search needs)
+    (search needs)
     loop-again
     returns-2)

@@ -15,15 +15,6 @@ returns c =
     let i : ℕ = c .before .before .args .i in
     omega (arith, List·getD-eq-default b 0 {n = i} (c .if1 .taken), List·getD-eq-default b 0 {n = i + 1} (omega (arith, c .if1 .taken)))
 
-byte-at-requires : tie.Need-byte-at-requires
-byte-at-requires c κs = search needs
-
-add-byte-at : tie.Need-add-byte-at
-add-byte-at c = search needs
-
-byte-at-requires-2 : tie.Need-byte-at-requires-2
-byte-at-requires-2 c κs = search needs
-
 mul-result : tie.Need-mul-result
 unfolding at
 mul-result c =
@@ -45,9 +36,9 @@ word-at-spec =
     tie.close
     (tie.spec
     returns
-    byte-at-requires
-    add-byte-at
-    byte-at-requires-2
+    (search needs)
+    (search needs)
+    (search needs)
     mul-result
     add-result
     returns-2)
