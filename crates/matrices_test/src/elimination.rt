@@ -1,22 +1,22 @@
 // Elimination by row i: every row loses the multiple of the old row i that makes its number in the pivot column 0, worked out anew from a copy.
-use crate::numbers::draw;
 use crate::numbers::inverse;
 use crate::numbers::mul_add;
-use crate::numbers::narrow;
 use crate::numbers::opposite;
-use crate::numbers::prime;
-use crate::numbers::product;
-use crate::numbers::quotient;
-use crate::numbers::residue;
-use crate::numbers::seed;
 use crate::numbers::skip;
-use crate::numbers::step;
 use crate::tables::Shape;
-use crate::tables::at;
 use crate::tables::entry;
 use crate::tables::fill;
 use crate::tables::first_column;
 use arithmetic::Symbol;
+use testing::at;
+use testing::draw;
+use testing::narrow;
+use testing::prime;
+use testing::product;
+use testing::quotient;
+use testing::residue;
+use testing::seed;
+use testing::step;
 
 // 1 to 8 rows and 0 to 8 columns, and now and then the largest shape.
 fn shape(case: usize) -> Shape {

@@ -1,12 +1,12 @@
 // What rank refuses, and in which order. Each of the four things that can be wrong is right or wrong by itself, in all combinations.
-use crate::numbers::draw;
-use crate::numbers::seed;
 use crate::shapes::length_of;
 use crate::shapes::shape_of;
 use crate::tables::answer;
-use crate::tables::put;
 use arithmetic::Symbol;
 use std::num::wrapping_sub_usize;
+use testing::draw;
+use testing::put;
+use testing::seed;
 
 // 8 shapes, 3 lengths, 8 moduli and 4 numbers.
 pub const CASES: usize = 768;

@@ -1,6 +1,6 @@
 // Shapes and lengths, right and wrong, in all combinations.
-use crate::numbers::product;
 use crate::tables::Shape;
+use testing::product;
 
 // Shapes 0 to 3 are right. The product of 2^32 and 2^32 would wrap to 0.
 fn rows_of(n: usize) -> usize {

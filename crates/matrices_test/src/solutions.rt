@@ -1,15 +1,8 @@
 // Rank against a count: where the rank is r, exactly q to the power (columns - r) vectors x have the product 0 with every row.
 // All vectors are tried, for small q and few columns.
-use crate::numbers::draw;
 use crate::numbers::mul_add;
 use crate::numbers::power;
-use crate::numbers::prime;
-use crate::numbers::product;
-use crate::numbers::quotient;
-use crate::numbers::residue;
-use crate::numbers::seed;
 use crate::numbers::skip;
-use crate::numbers::step;
 use crate::tables::Shape;
 use crate::tables::entry;
 use crate::tables::fill;
@@ -17,6 +10,13 @@ use crate::tables::rank;
 use crate::tables::set_row;
 use arithmetic::Symbol;
 use std::num::wrapping_add_usize;
+use testing::draw;
+use testing::prime;
+use testing::product;
+use testing::quotient;
+use testing::residue;
+use testing::seed;
+use testing::step;
 
 // 0 to 5 rows and columns; 4 columns at most where q is 7, which keeps the number of vectors small.
 fn shape(case: usize) -> Shape {

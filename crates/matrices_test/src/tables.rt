@@ -1,30 +1,21 @@
 // Tables for the cases: reading them, making them, and changing them row by row.
-use crate::numbers::draw;
 use crate::numbers::mul_add;
-use crate::numbers::narrow;
-use crate::numbers::product;
-use crate::numbers::step;
-use crate::numbers::wide;
 use arithmetic::Symbol;
 use matrices::Ranked;
 use refusals::Refusal;
 use std::num::wrapping_sub_usize;
+use testing::at;
+use testing::draw;
+use testing::narrow;
+use testing::product;
+use testing::put;
+use testing::step;
+use testing::wide;
 
 pub struct Shape {
     pub q: usize,
     pub rows: usize,
     pub cols: usize,
-}
-
-// 0 past the end, so that no caller has to show that a place is inside; a write there changes nothing.
-pub fn at(t: &[Symbol], i: usize) -> usize {
-    if i < t.len() { wide(t[i]) } else { 0 }
-}
-
-pub fn put(t: &mut [Symbol], i: usize, a: usize) {
-    if i < t.len() {
-        t[i] = narrow(a);
-    }
 }
 
 pub fn place(cols: usize, j: usize, k: usize) -> usize {
@@ -75,18 +66,9 @@ pub fn set_row(s: Shape, t: &mut [Symbol], j: usize, c: usize, a: usize, d: usiz
     }
 }
 
-pub fn same(s: &[Symbol], t: &[Symbol]) -> bool {
-    for i in 0..s.len() {
-        if at(s, i) != at(t, i) {
-            return false;
-        }
-    }
-    true
-}
-
 fn number_of(refusal: Refusal) -> usize {
     let code = refusals::code_of(refusal);
-    code.number as usize
+    wide(code.number)
 }
 
 // What the library's rank says: the number of a refusal, else 100 more than the rank.

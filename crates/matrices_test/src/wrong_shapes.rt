@@ -1,10 +1,10 @@
 // Shapes that are no tables, and rows that a table does not have: elimination finds nothing and leaves the numbers as they are.
-use crate::numbers::seed;
 use crate::shapes::length_of;
 use crate::shapes::shape_of;
 use crate::tables::fill;
-use crate::tables::same;
 use arithmetic::Symbol;
+use testing::same;
+use testing::seed;
 
 // The 24 combinations of a shape and a length for eliminate, then the 20 wrong ones for reduce_rows.
 pub const CASES: usize = 44;

@@ -1,17 +1,18 @@
 // The format of records another way: each byte by its place, and a reader that works on the bytes' numbers.
-use crate::numbers::narrow;
 use crate::shapes::Shape;
 use crate::shapes::fits;
 use crate::shapes::plain;
 use crate::shapes::record_size;
 use crate::shapes::symbols;
-use crate::slices::at;
-use crate::slices::byte_at;
-use crate::slices::count_large;
 use arithmetic::Symbol;
 use arithmetic::is_prime;
 use std::num::wrapping_add_usize;
 use std::num::wrapping_sub_usize;
+use testing::at;
+use testing::byte_at;
+use testing::count_large;
+use testing::narrow;
+use testing::word_at;
 
 // The low half of a word at an even place, else the high one.
 fn half(word: usize, place: usize) -> usize {
@@ -51,11 +52,6 @@ pub fn record_byte(s: Shape, t: &[Symbol], place: usize) -> usize {
     trailer_byte(record_size(s), place - end)
 }
 
-// Two bytes as a number, low first.
-pub fn word(b: &[u8], i: usize) -> usize {
-    byte_at(b, i) % 256 + byte_at(b, wrapping_add_usize(i, 1)) % 256 * 256
-}
-
 // The counts and q that stand at a place.
 fn shape_at(b: &[u8], start: usize) -> Shape {
     let i = start % 4294967296;
@@ -64,7 +60,7 @@ fn shape_at(b: &[u8], start: usize) -> Shape {
         size: byte_at(b, i + 1),
         limit: byte_at(b, i + 2),
         rate: byte_at(b, i + 3),
-        q: word(b, i + 4),
+        q: word_at(b, i + 4),
     }
 }
 
@@ -74,8 +70,8 @@ pub fn start(b: &[u8]) -> usize {
     if n < 4 {
         return n;
     }
-    let distance = word(b, n - 4);
-    if word(b, n - 2) != 20555 || distance < 10 || distance > n {
+    let distance = word_at(b, n - 4);
+    if word_at(b, n - 2) != 20555 || distance < 10 || distance > n {
         return n;
     }
     n - distance
@@ -90,7 +86,7 @@ pub fn symbol_in(b: &[u8], k: usize) -> usize {
     if k >= symbols(shape_in(b)) {
         return 0;
     }
-    word(b, start(b) % 65536 + 6 + k % 65536 * 2)
+    word_at(b, start(b) % 65536 + 6 + k % 65536 * 2)
 }
 
 fn count_large_in(b: &[u8]) -> usize {

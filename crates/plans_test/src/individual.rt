@@ -1,12 +1,5 @@
 // Individual keys: sums in 64 bits from the last symbol to the first, reduced once.
 use crate::making::fill_made;
-use crate::numbers::draw;
-use crate::numbers::mul_add;
-use crate::numbers::product;
-use crate::numbers::quotient;
-use crate::numbers::residue;
-use crate::numbers::seed;
-use crate::numbers::step;
 use crate::shapes::Shape;
 use crate::shapes::class;
 use crate::shapes::plain;
@@ -15,13 +8,20 @@ use crate::shapes::symbols;
 use crate::shapes::users;
 use crate::shapes::verdict_said;
 use crate::shapes::wrong_length;
-use crate::slices::at;
-use crate::slices::count_large;
-use crate::slices::fill;
 use crate::slices::is_filled;
-use crate::slices::put;
 use arithmetic::Symbol;
 use keys::derive_keys;
+use testing::at;
+use testing::count_large;
+use testing::draw;
+use testing::fill;
+use testing::mul_add;
+use testing::product;
+use testing::put;
+use testing::quotient;
+use testing::residue;
+use testing::seed;
+use testing::step;
 use vetting::vet;
 
 fn counts(clusters: usize, size: usize, limit: usize, rate: usize) -> Shape {

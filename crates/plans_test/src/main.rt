@@ -4,7 +4,6 @@ mod format;
 mod individual;
 mod making;
 mod named;
-mod numbers;
 mod reading;
 mod shapes;
 mod slices;

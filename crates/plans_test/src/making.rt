@@ -1,11 +1,4 @@
 // The table maker, for all counts up to one past the bounds: powers by repeated multiplication, and sums of whole columns.
-use crate::numbers::draw;
-use crate::numbers::mul_add;
-use crate::numbers::narrow;
-use crate::numbers::product;
-use crate::numbers::quotient;
-use crate::numbers::residue;
-use crate::numbers::seed;
 use crate::shapes::Shape;
 use crate::shapes::class;
 use crate::shapes::counts_fit;
@@ -16,16 +9,23 @@ use crate::shapes::symbols;
 use crate::shapes::users;
 use crate::shapes::verdict_said;
 use crate::shapes::wrong_length;
-use crate::slices::at;
-use crate::slices::fill;
 use crate::slices::is_filled;
-use crate::slices::is_padded;
-use crate::slices::put;
 use arithmetic::Symbol;
 use arithmetic::is_prime;
 use keys::make_table;
-use std::num::wrapping_add_usize;
 use std::num::wrapping_sub_usize;
+use testing::column_sum;
+use testing::draw;
+use testing::fill;
+use testing::mul_add;
+use testing::narrow;
+use testing::power;
+use testing::product;
+use testing::put;
+use testing::quotient;
+use testing::residue;
+use testing::same;
+use testing::seed;
 use vetting::vet;
 
 // U and V from 0 to 9, T from 0 to 17, 12 moduli and 6 generators.
@@ -103,14 +103,6 @@ pub fn length(number: usize) -> usize {
     wrong_length(n, draw(seed(number), 16))
 }
 
-fn power(q: usize, a: usize, n: usize) -> usize {
-    let mut p = residue(1, q);
-    for k in 0..n {
-        p = residue(product(p, a), q);
-    }
-    p
-}
-
 // Symbol k of a row that is not the last: 1 and zeros, or powers of the generator's power.
 fn entry(q: usize, generator: usize, i: usize, k: usize) -> usize {
     if i == 0 && k != 0 {
@@ -128,20 +120,16 @@ fn fill_rows(s: Shape, generator: usize, t: &mut [Symbol]) {
 }
 
 // The sum of column k, over all rows but the last.
-fn column_sum(s: Shape, t: &[Symbol], k: usize) -> usize {
+fn sum_above(s: Shape, t: &[Symbol], k: usize) -> usize {
     let n = wrapping_sub_usize(users(s), 1);
-    let mut sum: usize = 0;
-    for i in 0..n {
-        sum = wrapping_add_usize(sum, at(t, mul_add(k, i, s.rate)));
-    }
-    residue(sum, s.q)
+    residue(column_sum(t, n, s.rate, k), s.q)
 }
 
 fn fill_last(s: Shape, t: &mut [Symbol]) {
     let many = s.rate;
     let last = wrapping_sub_usize(users(s), 1);
     for k in 0..many {
-        let minus = wrapping_sub_usize(s.q, column_sum(s, t, k));
+        let minus = wrapping_sub_usize(s.q, sum_above(s, t, k));
         put(t, mul_add(k, last, many), residue(minus, s.q));
     }
 }
@@ -189,7 +177,7 @@ pub fn made(number: usize, t: &mut [Symbol], other: &mut [Symbol]) -> usize {
     );
     let answer = planned_said(result, s);
     let buffers = if answer == 0 {
-        is_padded(t, other)
+        same(t, other)
     } else {
         is_filled(t, 65536, x)
     };

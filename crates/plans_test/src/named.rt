@@ -1,6 +1,5 @@
 // The constructor of plans, and the cases that document 01 wants run: the edges of q, L and U; and one plan of the largest size.
 use crate::making::fill_made;
-use crate::numbers::narrow;
 use crate::shapes::DIFFER;
 use crate::shapes::Shape;
 use crate::shapes::class;
@@ -11,11 +10,12 @@ use crate::shapes::plan_of;
 use crate::shapes::planned_said;
 use crate::shapes::verdict_said;
 use crate::shapes::wrong_shape;
-use crate::slices::is_padded;
 use arithmetic::Symbol;
 use arithmetic::is_prime;
 use keys::derive_keys;
 use keys::make_table;
+use testing::narrow;
+use testing::same;
 use vetting::Plan;
 use vetting::vet;
 
@@ -106,7 +106,7 @@ fn largest() -> usize {
     class(
         planned_said(planned, largest_shape()),
         0,
-        is_padded(&table, &other),
+        same(&table, &other),
     )
 }
 

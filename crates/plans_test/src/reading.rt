@@ -3,25 +3,25 @@ use crate::format::read_refusal;
 use crate::format::record_byte;
 use crate::format::shape_in;
 use crate::format::symbol_in;
-use crate::numbers::draw;
-use crate::numbers::drawn;
-use crate::numbers::residue;
-use crate::numbers::seed;
-use crate::numbers::step;
 use crate::shapes::Shape;
 use crate::shapes::class;
 use crate::shapes::drawn_shape;
 use crate::shapes::planned_said;
 use crate::shapes::record_size;
 use crate::shapes::symbols;
-use crate::slices::at;
-use crate::slices::byte_at;
-use crate::slices::fill;
 use crate::slices::is_filled;
-use crate::slices::put_byte;
 use arithmetic::Symbol;
 use records::read_record;
 use std::num::wrapping_sub_usize;
+use testing::at;
+use testing::byte_at;
+use testing::draw;
+use testing::drawn;
+use testing::fill;
+use testing::put_byte;
+use testing::residue;
+use testing::seed;
+use testing::step;
 
 // A buffer is a part of 64 drawn bytes, a record, and drawn bytes: where it starts, its length, the byte that is changed, and what is added
 // to it. `lent` is the length of the lent table.

@@ -1,12 +1,12 @@
 // Counts and moduli, right ones drawn, and wrong ones; what the library says of them as one number.
-use crate::numbers::draw;
-use crate::numbers::narrow;
-use crate::numbers::product;
-use crate::numbers::seed;
-use crate::numbers::step;
-use crate::numbers::wide;
 use refusals::Refusal;
 use refusals::Verdict;
+use testing::draw;
+use testing::narrow;
+use testing::product;
+use testing::seed;
+use testing::step;
+use testing::wide;
 use vetting::Plan;
 use vetting::Planned;
 

@@ -1,9 +1,6 @@
 // The writer of records, and round trips: right and wrong inputs in all combinations, then drawn plans with bytes before their records.
 use crate::format::record_byte;
 use crate::format::write_refusal;
-use crate::numbers::draw;
-use crate::numbers::drawn;
-use crate::numbers::seed;
 use crate::shapes::DIFFER;
 use crate::shapes::Shape;
 use crate::shapes::class;
@@ -15,15 +12,18 @@ use crate::shapes::symbols;
 use crate::shapes::verdict_said;
 use crate::shapes::wrong_length;
 use crate::shapes::wrong_shape;
-use crate::slices::byte_at;
-use crate::slices::fill;
-use crate::slices::fill_bytes;
 use crate::slices::is_filled_bytes;
-use crate::slices::is_padded;
-use crate::slices::put;
 use arithmetic::Symbol;
 use records::read_record;
 use records::write_record;
+use testing::byte_at;
+use testing::draw;
+use testing::drawn;
+use testing::fill;
+use testing::fill_bytes;
+use testing::put;
+use testing::same;
+use testing::seed;
 
 // 144 shapes, 3 lengths of the table, 3 of the buffer and 4 symbols.
 pub const WRITINGS: usize = 5184;
@@ -110,6 +110,6 @@ pub fn round_trip(number: usize, t: &mut [Symbol], b: &mut [u8], lent: &mut [Sym
     class(
         answer,
         0,
-        holds_record(s, t, b, before(number), x) && is_padded(lent, t),
+        holds_record(s, t, b, before(number), x) && same(lent, t),
     )
 }

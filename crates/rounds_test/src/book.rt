@@ -1,20 +1,21 @@
 // The second implementation: the list of who has reported, each with the block that was counted, summed afresh whenever a sum is asked for.
 // Row i of the book is a name and 64 numbers. Row 0 has no name (0): it holds the sums of a state that was handed in, zeros otherwise.
-use crate::numbers::at;
 use crate::numbers::pick;
-use crate::numbers::product;
-use crate::numbers::put;
-use crate::numbers::residue;
 use crate::shapes::Shape;
 use crate::shapes::senders;
 use arithmetic::Symbol;
 use std::num::wrapping_add_usize;
+use testing::at;
+use testing::column_sum;
+use testing::mul_add;
+use testing::put;
+use testing::residue;
 
 // 17 rows of 65.
 pub const BOOK: usize = 1105;
 
 fn place(row: usize, p: usize) -> usize {
-    product(row, 65) + p % 65536
+    mul_add(p, row, 65)
 }
 
 fn name(book: &[Symbol], row: usize) -> usize {
@@ -66,15 +67,11 @@ pub fn bits(book: &[Symbol], count: usize) -> usize {
 
 // The sum of everything in position p, from 0, reduced once; 0 past the length.
 pub fn sum(s: Shape, book: &[Symbol], count: usize, p: usize) -> usize {
-    let mut sum = at(book, place(0, wrapping_add_usize(p, 1)));
     if p >= s.length {
         return 0;
     }
-    for i in 0..count {
-        let row = wrapping_add_usize(i, 1);
-        sum = wrapping_add_usize(sum, at(book, place(row, wrapping_add_usize(p, 1))));
-    }
-    residue(sum, s.q)
+    let rows = wrapping_add_usize(count, 1);
+    residue(column_sum(book, rows, 65, wrapping_add_usize(p, 1)), s.q)
 }
 
 // Whether these are the sums: as many numbers as there are given.

@@ -1,7 +1,5 @@
 // States with a bound broken, to be handed in.
 use crate::faults::state_number;
-use crate::numbers::mix;
-use crate::numbers::narrow;
 use crate::numbers::one_in;
 use crate::numbers::pick;
 use crate::shapes::composite;
@@ -9,6 +7,8 @@ use crate::steps::Held;
 use arithmetic::Symbol;
 use rounds::Round;
 use std::num::wrapping_add_usize;
+use testing::narrow;
+use testing::seed;
 
 // 0, 9, 8 and a number that no product with it fits.
 fn count(n: usize) -> usize {
@@ -104,7 +104,7 @@ fn broken_once(held: Held, x: usize) -> Held {
 // Two things at once in every third, for the order of the refusals.
 fn broken(held: Held, x: usize) -> Held {
     if one_in(x, 29, 3) {
-        return broken_once(broken_once(held, x), mix(x));
+        return broken_once(broken_once(held, x), seed(x));
     }
     broken_once(held, x)
 }

@@ -1,15 +1,15 @@
 // What is refused, by the paper's orders, from the last fault to the first: a later line overrules the ones before it.
 use crate::book::all_named;
 use crate::book::is_named;
-use crate::numbers::at;
-use crate::numbers::product;
-use crate::numbers::wide;
 use crate::shapes::Shape;
 use crate::shapes::senders;
 use crate::steps::Frame;
 use crate::steps::Held;
 use arithmetic::Symbol;
 use std::num::wrapping_add_usize;
+use testing::at;
+use testing::product;
+use testing::wide;
 
 fn over(fault: bool, number: usize, otherwise: usize) -> usize {
     if fault { number } else { otherwise }

@@ -1,8 +1,7 @@
 // Frames: most are good, some are late or damaged, and some have several faults.
-use crate::numbers::low32;
 use crate::numbers::one_in;
 use crate::numbers::pick;
-use crate::numbers::put;
+use crate::numbers::pick32;
 use crate::shapes::Shape;
 use crate::shapes::senders;
 use crate::steps::Frame;
@@ -10,6 +9,7 @@ use arithmetic::Symbol;
 use std::num::wrapping_add_u32;
 use std::num::wrapping_add_usize;
 use std::num::wrapping_sub_usize;
+use testing::put;
 
 // A number that no sender has.
 fn stranger(n: usize, senders: usize) -> usize {
@@ -49,7 +49,7 @@ pub fn room(s: Shape, x: usize) -> usize {
 
 fn number(s: Shape, x: usize) -> u32 {
     if one_in(x, 16, 12) {
-        return wrapping_add_u32(s.number, 1 + low32(pick(x, 17, 2000000000)) % 2000000000);
+        return wrapping_add_u32(s.number, 1 + pick32(x, 17) % 2000000000);
     }
     s.number
 }

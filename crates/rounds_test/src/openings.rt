@@ -2,7 +2,6 @@
 use crate::faults::open_number;
 use crate::faults::shape_of;
 use crate::numbers::all_are;
-use crate::numbers::mix;
 use crate::numbers::one_in;
 use crate::numbers::pick;
 use crate::shapes::Shape;
@@ -14,6 +13,7 @@ use crate::tally::Kind;
 use crate::tally::Tally;
 use crate::tally::answered;
 use crate::tally::checked;
+use testing::seed;
 
 fn count(n: usize) -> usize {
     match n {
@@ -96,7 +96,7 @@ fn agrees(s: Shape, number: usize, held: Held) -> bool {
 }
 
 pub fn run(tally: Tally, case: usize) -> Tally {
-    let x = mix(case);
+    let x = seed(case);
     let s = other_shape(other_counts(drawn_shape(x), x), x);
     let number = open_number(s);
     let got = open(s);

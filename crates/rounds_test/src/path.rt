@@ -1,18 +1,10 @@
 // The whole way of the readings: a made table, keys of one source key, uploads, relays, server. The total is that of the readings, and whoever has
 // a key gets the reading back.
-use crate::numbers::at;
 use crate::numbers::clip;
-use crate::numbers::fill;
-use crate::numbers::mix;
-use crate::numbers::narrow;
 use crate::numbers::pick;
-use crate::numbers::product;
-use crate::numbers::residue;
-use crate::numbers::same;
 use crate::shapes::Shape;
 use crate::shapes::counts;
 use crate::shapes::length;
-use crate::shapes::prime;
 use crate::shapes::senders;
 use crate::steps::Frame;
 use crate::steps::Held;
@@ -23,6 +15,15 @@ use crate::steps::open;
 use arithmetic::Symbol;
 use std::num::wrapping_add_usize;
 use std::num::wrapping_sub_usize;
+use testing::at;
+use testing::column_sum;
+use testing::fill;
+use testing::narrow;
+use testing::prime;
+use testing::product;
+use testing::residue;
+use testing::same;
+use testing::seed;
 use vetting::Plan;
 use vetting::Planned;
 
@@ -245,13 +246,7 @@ fn all_uploads(p: Pool, readings: &[Symbol], keys: &[Symbol], uploads: &mut [Sym
 
 // The sum of all readings in one position, reduced once.
 fn true_total(p: Pool, readings: &[Symbol], position: usize) -> usize {
-    let n = users(p);
-    let mut sum: usize = 0;
-    for i in 0..n {
-        let place = wrapping_add_usize(product(i, p.length), position);
-        sum = wrapping_add_usize(sum, at(readings, place));
-    }
-    residue(sum, p.q)
+    residue(column_sum(readings, users(p), p.length, position), p.q)
 }
 
 fn is_total(p: Pool, readings: &[Symbol], total: &[Symbol]) -> bool {
@@ -264,7 +259,7 @@ fn is_total(p: Pool, readings: &[Symbol], total: &[Symbol]) -> bool {
 }
 
 fn total_agrees(p: Pool, readings: &[Symbol], sums: &[Symbol], total: &mut [Symbol]) -> bool {
-    let number = gather(server_shape(p), mix(p.x), sums, total);
+    let number = gather(server_shape(p), seed(p.x), sums, total);
     if number != 0 {
         return false;
     }
@@ -318,8 +313,8 @@ fn derived(
     keys: &mut [Symbol],
     readings: &mut [Symbol],
 ) -> bool {
-    fill(p.q, p.x, source);
-    fill(p.q, mix(p.x), readings);
+    fill(source, p.q, p.x);
+    fill(readings, p.q, seed(p.x));
     let number = number_of(keys::derive_keys(plan, table, p.length, source, keys));
     if number != 0 {
         return false;
@@ -364,7 +359,7 @@ fn made(p: Pool, table: &mut [Symbol]) -> Seen {
 }
 
 pub fn run(case: usize) -> Seen {
-    let p = pool_of(mix(case));
+    let p = pool_of(seed(case));
     let n = product(users(p), rate(p));
     if n > 256 {
         return Seen::NoPlan;

@@ -16,18 +16,9 @@ use crate::frames::damage;
 use crate::frames::frame;
 use crate::frames::room;
 use crate::numbers::all_are;
-use crate::numbers::at;
 use crate::numbers::clip;
-use crate::numbers::fill;
-use crate::numbers::mix;
-use crate::numbers::narrow;
 use crate::numbers::one_in;
 use crate::numbers::pick;
-use crate::numbers::product;
-use crate::numbers::put;
-use crate::numbers::residue;
-use crate::numbers::same;
-use crate::numbers::wide;
 use crate::shapes::Shape;
 use crate::shapes::drawn_shape;
 use crate::shapes::senders;
@@ -46,6 +37,15 @@ use arithmetic::Symbol;
 use rounds::Round;
 use std::num::wrapping_add_u64;
 use std::num::wrapping_add_usize;
+use testing::at;
+use testing::fill;
+use testing::narrow;
+use testing::product;
+use testing::put;
+use testing::residue;
+use testing::same;
+use testing::seed;
+use testing::wide;
 
 // No number that is ever summed: larger than every q.
 const MARK: usize = 65535;
@@ -186,7 +186,7 @@ fn send_frame(
     book: &mut [Symbol],
 ) -> World {
     let held = w.held;
-    fill(s.q, x, block);
+    fill(block, s.q, x);
     damage(s, f, x, block);
     count_frame(s, w, handed(held, x), f, block, book)
 }
@@ -236,12 +236,12 @@ fn turn(s: Shape, w: World, x: usize, book: &mut [Symbol]) -> World {
     frame_turn(s, w, x, book)
 }
 
-fn turns(s: Shape, start: World, seed: usize, book: &mut [Symbol]) -> World {
+fn turns(s: Shape, start: World, first: usize, book: &mut [Symbol]) -> World {
     let n = wrapping_add_usize(product(senders(s), 4), 4);
     let mut w = start;
-    let mut x = seed;
+    let mut x = first;
     for i in 0..n {
-        x = mix(wrapping_add_usize(x, i));
+        x = seed(wrapping_add_usize(x, i));
         w = turn(s, w, x, book);
     }
     w
@@ -301,8 +301,8 @@ fn begun(s: Shape, tally: Tally, x: usize, book: &mut [Symbol]) -> World {
 }
 
 fn played(s: Shape, start: World, x: usize, book: &mut [Symbol]) -> Tally {
-    let w = turns(s, start, mix(x), book);
-    let end = give_turn(s, w, mix(wrapping_add_usize(x, 77)), book);
+    let w = turns(s, start, seed(x), book);
+    let end = give_turn(s, w, seed(wrapping_add_usize(x, 77)), book);
     end.tally
 }
 
@@ -312,7 +312,7 @@ fn whole(s: Shape, tally: Tally, x: usize, book: &mut [Symbol]) -> Tally {
 }
 
 pub fn run(tally: Tally, case: usize) -> Tally {
-    let x = mix(case);
+    let x = seed(case);
     let s = drawn_shape(x);
     let mut book = [0 as Symbol; BOOK];
     whole(s, tally, x, &mut book)
@@ -343,7 +343,7 @@ fn mistaken(s: Shape, x: usize, book: &mut [Symbol]) -> Tally {
 
 // Whether a round with a mistake in the book is seen to differ.
 pub fn is_seen(case: usize) -> bool {
-    let x = mix(case);
+    let x = seed(case);
     let s = drawn_shape(x);
     let mut book = [0 as Symbol; BOOK];
     let tally = mistaken(s, x, &mut book);

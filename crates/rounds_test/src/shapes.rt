@@ -1,8 +1,9 @@
 // What a round is for: the plan's counts, q and L, the relay's cluster (0 at the server) and the round's number.
-use crate::numbers::low32;
 use crate::numbers::one_in;
 use crate::numbers::pick;
-use crate::numbers::residue;
+use crate::numbers::pick32;
+use testing::prime;
+use testing::residue;
 
 pub struct Shape {
     pub server: bool,
@@ -41,19 +42,6 @@ pub fn counts(n: usize) -> usize {
     }
 }
 
-// Small primes below 4, then large ones; the largest there is from 6 on.
-pub fn prime(n: usize) -> usize {
-    match n {
-        0 => 2,
-        1 => 3,
-        2 => 5,
-        3 => 7,
-        4 => 257,
-        5 => 65519,
-        _ => 65521,
-    }
-}
-
 // Numbers of 16 bits that are no primes: the smallest, squares, and the largest.
 pub fn composite(n: usize) -> usize {
     match n {
@@ -80,7 +68,7 @@ fn number(x: usize) -> u32 {
     match pick(x, 5, 4) {
         0 => 0,
         1 => 4294967295,
-        _ => low32(pick(x, 6, 4294967296)),
+        _ => pick32(x, 6),
     }
 }
 

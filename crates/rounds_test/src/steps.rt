@@ -1,5 +1,4 @@
 // The library's steps, alike for relay and server: the state handed in, and the number and the state handed back.
-use crate::numbers::narrow;
 use crate::shapes::Shape;
 use arithmetic::Symbol;
 use refusals::Verdict;
@@ -8,6 +7,8 @@ use rounds::RelayStep;
 use rounds::Round;
 use rounds::ServerRound;
 use rounds::ServerStep;
+use testing::narrow;
+use testing::wide;
 
 pub struct Held {
     pub server: bool,
@@ -27,10 +28,6 @@ pub struct Frame {
     pub damaged: bool,
 }
 
-fn small(a: u16) -> usize {
-    a as usize
-}
-
 // 99, which no refusal has, where a detail is not 0: rounds give none.
 pub fn number_of(answer: Verdict) -> usize {
     let code = refusals::verdict_code(answer);
@@ -40,7 +37,7 @@ pub fn number_of(answer: Verdict) -> usize {
     if code.second != 0 {
         return 99;
     }
-    small(code.number)
+    wide(code.number)
 }
 
 fn from_relay(step: RelayStep) -> Got {

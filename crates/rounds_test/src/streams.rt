@@ -1,17 +1,17 @@
 // Key streams, drawn from until nothing is left. The test keeps the place of the next symbol itself.
 // draw_from goes by draw, which only takes a position apart and calls draw_at; both are asked here.
 use crate::numbers::all_are;
-use crate::numbers::at;
 use crate::numbers::clip;
-use crate::numbers::mix;
 use crate::numbers::one_in;
 use crate::numbers::pick;
-use crate::numbers::put;
 use crate::steps::number_of;
 use arithmetic::Symbol;
 use rounds::Drawn;
 use std::num::wrapping_add_usize;
 use std::num::wrapping_sub_usize;
+use testing::at;
+use testing::put;
+use testing::seed;
 
 // No symbol of a stream.
 const MARK: usize = 65535;
@@ -156,11 +156,11 @@ fn one_draw(stream: &[Symbol], s: Stream, x: usize) -> Stream {
     both(stream, s, length, &mut a[..n], &mut b[..n])
 }
 
-fn draws(stream: &[Symbol], start: Stream, seed: usize) -> Stream {
+fn draws(stream: &[Symbol], start: Stream, first: usize) -> Stream {
     let mut s = start;
-    let mut x = seed;
+    let mut x = first;
     for i in 0usize..24 {
-        x = mix(wrapping_add_usize(x, i));
+        x = seed(wrapping_add_usize(x, i));
         s = one_draw(stream, s, x);
     }
     s
@@ -192,7 +192,7 @@ fn drawn_out(mut s: Stream, x: usize, stream: &mut [Symbol]) -> Stream {
 }
 
 pub fn run(s: Stream, case: usize) -> Stream {
-    let x = mix(case);
+    let x = seed(case);
     let n = pick(x, 77, 401);
     if n > 400 {
         return s;

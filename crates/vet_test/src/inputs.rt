@@ -2,18 +2,19 @@
 // An input is made of its number alone, so that each can be looked at by itself.
 use crate::numbers::after;
 use crate::numbers::before;
-use crate::numbers::byte_at;
-use crate::numbers::draw;
 use crate::numbers::from_one;
-use crate::numbers::product;
-use crate::numbers::put;
 use crate::numbers::put_word;
-use crate::numbers::state;
 use crate::plans::Draft;
 use crate::plans::drawn;
 use crate::plans::record_size;
 use crate::plans::symbols;
 use crate::plans::write;
+use testing::byte_at;
+use testing::draw;
+use testing::fill_bytes;
+use testing::product;
+use testing::put_byte;
+use testing::state;
 
 // The bytes of the buffer, and the place from which it is filled anew for each input; before that it is 0.
 pub const BUFFER: usize = 65536;
@@ -28,9 +29,10 @@ pub struct Input {
     last: usize,
 }
 
+// With numbers of another seed than those that the plan is made of.
 fn fill(bytes: &mut [u8], seed: usize) {
-    for i in FILLED..BUFFER {
-        put(bytes, i, draw(state(seed, i), 256));
+    if FILLED <= bytes.len() {
+        fill_bytes(&mut bytes[FILLED..], state(seed, 500));
     }
 }
 
@@ -127,7 +129,7 @@ fn number(q: usize, x: usize) -> usize {
 }
 
 fn change_byte(d: Draft, bytes: &mut [u8], i: Input, x: usize) {
-    put(
+    put_byte(
         bytes,
         after(i.first, draw(x, record_size(d))),
         state(x, 1) / 65536,
@@ -138,7 +140,7 @@ fn change_byte(d: Draft, bytes: &mut [u8], i: Input, x: usize) {
 fn shift_byte(d: Draft, bytes: &mut [u8], i: Input, x: usize) {
     let place = after(i.first, draw(x, record_size(d)));
     let n = byte_at(bytes, place);
-    put(
+    put_byte(
         bytes,
         place,
         after(n, if draw(state(x, 1), 2) == 0 { 1 } else { 255 }),
@@ -150,11 +152,11 @@ fn change_distance(bytes: &mut [u8], i: Input, x: usize) {
 }
 
 fn change_mark(bytes: &mut [u8], i: Input, x: usize) {
-    put(bytes, before(i.last, from_one(x, 2)), state(x, 1) / 65536);
+    put_byte(bytes, before(i.last, from_one(x, 2)), state(x, 1) / 65536);
 }
 
 fn change_count(bytes: &mut [u8], i: Input, x: usize) {
-    put(bytes, after(i.first, draw(x, 4)), count(state(x, 1)));
+    put_byte(bytes, after(i.first, draw(x, 4)), count(state(x, 1)));
 }
 
 fn change_modulus(bytes: &mut [u8], i: Input, x: usize) {

@@ -1,14 +1,15 @@
 // Plans drawn from a seed, and their records.
 use crate::numbers::after;
 use crate::numbers::before;
-use crate::numbers::draw;
 use crate::numbers::from_one;
-use crate::numbers::product;
-use crate::numbers::put;
 use crate::numbers::put_word;
-use crate::numbers::quotient;
-use crate::numbers::residue;
-use crate::numbers::state;
+use testing::draw;
+use testing::prime;
+use testing::product;
+use testing::put_byte;
+use testing::quotient;
+use testing::residue;
+use testing::state;
 
 pub struct Draft {
     pub clusters: usize,
@@ -17,19 +18,6 @@ pub struct Draft {
     pub rate: usize,
     pub q: usize,
     seed: usize,
-}
-
-// The small primes are below 4.
-fn prime(n: usize) -> usize {
-    match n {
-        0 => 2,
-        1 => 3,
-        2 => 5,
-        3 => 7,
-        4 => 257,
-        5 => 65519,
-        _ => 65521,
-    }
 }
 
 fn least(a: usize, b: usize) -> usize {
@@ -118,10 +106,10 @@ pub fn symbol(d: Draft, n: usize) -> usize {
 }
 
 fn write_head(d: Draft, bytes: &mut [u8], first: usize) {
-    put(bytes, first, d.clusters);
-    put(bytes, after(first, 1), d.size);
-    put(bytes, after(first, 2), d.limit);
-    put(bytes, after(first, 3), d.rate);
+    put_byte(bytes, first, d.clusters);
+    put_byte(bytes, after(first, 1), d.size);
+    put_byte(bytes, after(first, 2), d.limit);
+    put_byte(bytes, after(first, 3), d.rate);
     put_word(bytes, after(first, 4), d.q);
 }
 
@@ -140,6 +128,6 @@ pub fn write(d: Draft, bytes: &mut [u8], last: usize) {
     write_head(d, bytes, first);
     write_symbols(d, bytes, after(first, 6));
     put_word(bytes, before(last, 4), record_size(d));
-    put(bytes, before(last, 2), 75);
-    put(bytes, before(last, 1), 80);
+    put_byte(bytes, before(last, 2), 75);
+    put_byte(bytes, before(last, 1), 80);
 }

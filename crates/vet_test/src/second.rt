@@ -3,13 +3,14 @@
 ghost use Prim.Native.Nat.{_≤_};
 use crate::numbers::after;
 use crate::numbers::before;
-use crate::numbers::byte_at;
 use crate::numbers::joined;
-use crate::numbers::narrow;
-use crate::numbers::product;
-use crate::numbers::residue;
-use crate::numbers::word_at;
 use refusals::Code;
+use testing::byte_at;
+use testing::divisors;
+use testing::narrow;
+use testing::product;
+use testing::residue;
+use testing::word_at;
 use vetting::Plan;
 
 // What the record says, and the place of its first symbol.
@@ -80,17 +81,6 @@ fn broken(h: Head) -> usize {
     let counts = outside(1, h.clusters, 8) + outside(1, h.size, 8);
     let pool = outside(1, users(h), 16) + outside(0, h.limit, users(h));
     counts + pool + outside(1, h.rate, 16)
-}
-
-// A prime has two.
-fn divisors(q: usize) -> usize {
-    let mut n: usize = 0;
-    for d in 0..q {
-        if residue(q, after(d, 1)) == 0 {
-            n = after(n, 1);
-        }
-    }
-    n
 }
 
 fn symbol(bytes: &[u8], h: Head, n: usize) -> usize {

@@ -1,14 +1,14 @@
 // The plans and their key tables, each made of its number alone: tiny ones in all shapes, the small pool, and inputs that are no good.
-use crate::numbers::product;
-use crate::numbers::quotient;
-use crate::numbers::residue;
-use crate::numbers::seed;
 use crate::tables::Shape;
 use crate::tables::make;
-use crate::tables::put;
 use crate::tables::symbols;
 use crate::wrong;
 use arithmetic::Symbol;
+use testing::product;
+use testing::put;
+use testing::quotient;
+use testing::residue;
+use testing::seed;
 
 pub struct Case {
     pub group: usize,

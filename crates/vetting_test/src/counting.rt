@@ -1,19 +1,19 @@
 // Which pair leaks first, by literal counting: for each set of readings, how many source keys show each view. No rank, and no elimination.
 // Blocks have one position: where a pair leaks with longer blocks, it does so with these (proved: leak-is-small).
-use crate::numbers::mul_add;
-use crate::numbers::narrow;
 use crate::numbers::ones;
 use crate::numbers::pack;
-use crate::numbers::power;
-use crate::numbers::product;
-use crate::numbers::quotient;
-use crate::numbers::residue;
 use crate::tables::Shape;
 use crate::tables::entry;
 use crate::tables::users;
 use arithmetic::Symbol;
 use std::num::wrapping_add_u8;
 use std::num::wrapping_sub_u8;
+use testing::mul_add;
+use testing::narrow;
+use testing::power;
+use testing::product;
+use testing::quotient;
+use testing::residue;
 
 // A coalition and an observer, 0 for the server.
 struct Pair {
@@ -131,7 +131,7 @@ fn decrease(counts: &mut [u8; 65536], v: u16) {
 
 // For every view: how many source keys show it with readings w, less how many show it with readings z. No count reaches 128.
 fn count(s: Shape, keys: &[u8; 512], p: Pair, w: usize, z: usize, counts: &mut [u8; 65536]) {
-    let all = power(s.q, s.rate);
+    let all = power(65536, s.q, s.rate);
     for n in 0..all {
         increase(counts, view(s, keys, p, w, n));
         decrease(counts, view(s, keys, p, z, n));
@@ -147,7 +147,7 @@ fn clear(counts: &mut [u8; 65536], v: u16) -> bool {
 
 // Makes the counts of all views of readings w 0; whether they were.
 fn clear_all(s: Shape, keys: &[u8; 512], p: Pair, w: usize, counts: &mut [u8; 65536]) -> bool {
-    let all = power(s.q, s.rate);
+    let all = power(65536, s.q, s.rate);
     let mut zero = true;
     for n in 0..all {
         let was = clear(counts, view(s, keys, p, w, n));
@@ -221,7 +221,7 @@ fn agreeing(s: Shape, p: Pair, w: usize) -> usize {
 }
 
 fn leaks(s: Shape, keys: &[u8; 512], p: Pair, counts: &mut [u8; 65536]) -> bool {
-    let all = power(s.q, users(s));
+    let all = power(65536, s.q, users(s));
     for w in 0..all {
         if differ(s, keys, p, w, agreeing(s, p, w), counts) {
             return true;
@@ -256,7 +256,7 @@ fn leaks_at(s: Shape, keys: &[u8; 512], x: usize, counts: &mut [u8; 65536]) -> b
 
 // The first pair that leaks, packed with the number 7; 0 where none does.
 fn first_leak(s: Shape, keys: &[u8; 512], counts: &mut [u8; 65536]) -> usize {
-    let all = product(power(2, users(s)), 9);
+    let all = product(power(65536, 2, users(s)), 9);
     for x in 0..all {
         if leaks_at(s, keys, x, counts) {
             let p = nth_pair(s, x);

@@ -1,15 +1,13 @@
 // The verdict another way: the checks before 7 one by one, each from the paper's words.
-use crate::numbers::has_two_divisors;
 use crate::numbers::pack;
-use crate::numbers::product;
-use crate::numbers::residue;
 use crate::tables::Shape;
-use crate::tables::at;
-use crate::tables::entry;
 use crate::tables::symbols;
 use crate::tables::users;
 use arithmetic::Symbol;
-use std::num::wrapping_add_usize;
+use testing::column_sum;
+use testing::count_large;
+use testing::divisors;
+use testing::residue;
 
 fn is_one_to(n: usize, most: usize) -> bool {
     n != 0 && n <= most
@@ -21,26 +19,9 @@ fn fits(s: Shape) -> bool {
     counts && users(s) <= 16 && s.limit <= users(s)
 }
 
-// How many numbers of the table are not below q.
-fn count_large(q: usize, t: &[Symbol]) -> usize {
-    let mut n: usize = 0;
-    for i in 0..t.len() {
-        if at(t, i) >= q {
-            n = wrapping_add_usize(n, 1);
-        }
-    }
-    n
-}
-
-// The sum of column k over all rows, from the last up.
-fn column_sum(s: Shape, t: &[Symbol], k: usize) -> usize {
-    let mut sum: usize = 0;
-    let mut i = users(s);
-    while i > 0 {
-        i -= 1;
-        sum = wrapping_add_usize(sum, entry(s, t, i, k));
-    }
-    residue(sum, s.q)
+// The sum of column k over all rows, reduced once.
+fn sum(s: Shape, t: &[Symbol], k: usize) -> usize {
+    residue(column_sum(t, users(s), s.rate, k), s.q)
 }
 
 // The first column, from 1, whose sum is not 0; found from the last column back. 0 where there is none.
@@ -48,7 +29,7 @@ fn wrong_column(s: Shape, t: &[Symbol]) -> usize {
     let mut found: usize = 0;
     let mut k = s.rate;
     while k > 0 {
-        if column_sum(s, t, k - 1) != 0 {
+        if sum(s, t, k - 1) != 0 {
             found = k;
         }
         k -= 1;
@@ -64,10 +45,10 @@ pub fn refusal(s: Shape, t: &[Symbol]) -> usize {
     if t.len() != symbols(s) {
         return pack(4, 0, 0);
     }
-    if !has_two_divisors(s.q) {
+    if divisors(s.q) != 2 {
         return pack(2, 0, 0);
     }
-    if count_large(s.q, t) != 0 {
+    if count_large(t, s.q) != 0 {
         return pack(3, 0, 0);
     }
     let k = wrong_column(s, t);

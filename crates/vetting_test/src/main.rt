@@ -9,11 +9,11 @@ mod wrong;
 use arithmetic::Symbol;
 use cases::Case;
 use libc::STDOUT_FILENO;
-use numbers::narrow;
 use numbers::pack;
-use numbers::wide;
 use std::num::wrapping_add_usize;
 use tables::Shape;
+use testing::narrow;
+use testing::wide;
 use vetting::Plan;
 
 // One symbol more than the largest table has.

@@ -1,14 +1,14 @@
 // Shapes of plans, and key tables for them.
-use crate::numbers::draw;
-use crate::numbers::mul_add;
-use crate::numbers::narrow;
-use crate::numbers::product;
-use crate::numbers::residue;
-use crate::numbers::seed;
-use crate::numbers::step;
-use crate::numbers::wide;
 use arithmetic::Symbol;
 use std::num::wrapping_sub_usize;
+use testing::at;
+use testing::draw;
+use testing::mul_add;
+use testing::product;
+use testing::put;
+use testing::residue;
+use testing::seed;
+use testing::step;
 
 // The counts of a plan and its q, all as numbers of one type.
 pub struct Shape {
@@ -25,17 +25,6 @@ pub fn users(s: Shape) -> usize {
 
 pub fn symbols(s: Shape) -> usize {
     product(users(s), s.rate)
-}
-
-// 0 past the end, so that no caller has to show that a place is inside; a write there changes nothing.
-pub fn at(t: &[Symbol], i: usize) -> usize {
-    if i < t.len() { wide(t[i]) } else { 0 }
-}
-
-pub fn put(t: &mut [Symbol], i: usize, a: usize) {
-    if i < t.len() {
-        t[i] = narrow(a);
-    }
 }
 
 // Symbol k of row i.

@@ -1,11 +1,11 @@
 // Counts, lengths, moduli and symbols, right and wrong, in all combinations.
-use crate::numbers::draw;
-use crate::numbers::seed;
 use crate::tables::Shape;
-use crate::tables::put;
 use crate::tables::symbols;
 use arithmetic::Symbol;
 use std::num::wrapping_sub_usize;
+use testing::draw;
+use testing::put;
+use testing::seed;
 
 // 16 shapes, 3 lengths, 9 moduli and 4 symbols.
 pub const CASES: usize = 1728;

@@ -9,54 +9,18 @@ Inv-loop group counts₀ tally₀ total₀ many number₀ counts tally total num
 abbrev μ-loop : tie.MeasureT-loop
 μ-loop group counts₀ tally₀ total₀ many number₀ counts tally total number = many - number
 
--- src/main.rt:77:9
-cases-requires : tie.Need-cases-requires Inv-loop μ-loop
-cases-requires c κs = search needs
-
--- src/main.rt:78:5
-loop-holds : tie.Need-loop-holds Inv-loop μ-loop
-loop-holds c = search needs
-
--- src/main.rt:79:13
-outcome-requires : tie.Need-outcome-requires Inv-loop μ-loop
-outcome-requires c κs = search needs
-
--- src/main.rt:80:9
-increase-requires : tie.Need-increase-requires Inv-loop μ-loop
-increase-requires c κs = search needs
-
--- src/main.rt:81:9
-increase-requires-2 : tie.Need-increase-requires-2 Inv-loop μ-loop
-increase-requires-2 c κs = search needs
-
--- src/main.rt:78:9
-add-number : tie.Need-add-number Inv-loop μ-loop
-add-number c = search needs
-
--- src/main.rt:78:5
-loop-less : tie.Need-loop-less Inv-loop μ-loop
-loop-less c = search needs
-
--- src/main.rt:78:5
-loop-again : tie.Need-loop-again Inv-loop μ-loop
-loop-again c = search needs
-
--- src/main.rt:76:1
-returns : tie.Need-returns Inv-loop μ-loop
-returns c = search needs
-
 pub count-spec : {M : Type 1} → statement M
 count-spec =
     tie.close
     (tie.spec
     Inv-loop
     μ-loop
-    cases-requires
-    loop-holds
-    outcome-requires
-    increase-requires
-    increase-requires-2
-    add-number
-    loop-less
-    loop-again
-    returns)
+    (search needs)
+    (search needs)
+    (search needs)
+    (search needs)
+    (search needs)
+    (search needs)
+    (search needs)
+    (search needs)
+    (search needs))

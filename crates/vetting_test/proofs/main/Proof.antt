@@ -9,49 +9,17 @@ Inv-loop counts₀ total₀ group₀ counts total group = group ≤ 5
 abbrev μ-loop : tie.MeasureT-loop
 μ-loop counts₀ total₀ group₀ counts total group = 5 - group
 
--- src/main.rt:120:22
-large-buffer-requires : tie.Need-large-buffer-requires Inv-loop μ-loop
-large-buffer-requires c κs = search needs
-
--- src/main.rt:122:5
-loop-holds : tie.Need-loop-holds Inv-loop μ-loop
-loop-holds c = search needs
-
--- src/main.rt:123:9
-report-requires : tie.Need-report-requires Inv-loop μ-loop
-report-requires c κs = search needs
-
--- src/main.rt:122:9
-add-group : tie.Need-add-group Inv-loop μ-loop
-add-group c = search needs
-
--- src/main.rt:122:5
-loop-less : tie.Need-loop-less Inv-loop μ-loop
-loop-less c = search needs
-
--- src/main.rt:122:5
-loop-again : tie.Need-loop-again Inv-loop μ-loop
-loop-again c = search needs
-
--- src/main.rt:125:5
-write-line-requires : tie.Need-write-line-requires Inv-loop μ-loop
-write-line-requires c κs = search needs
-
--- src/main.rt:119:1
-returns : tie.Need-returns Inv-loop μ-loop
-returns c = search needs
-
 pub main-spec : {M : Type 1} → statement M
 main-spec =
     tie.close
     (tie.spec
     Inv-loop
     μ-loop
-    large-buffer-requires
-    loop-holds
-    report-requires
-    add-group
-    loop-less
-    loop-again
-    write-line-requires
-    returns)
+    (search needs)
+    (search needs)
+    (search needs)
+    (search needs)
+    (search needs)
+    (search needs)
+    (search needs)
+    (search needs))

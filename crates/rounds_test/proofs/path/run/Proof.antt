@@ -5,8 +5,8 @@ use native.Mathlib.Omega.{arith}
 use Rattle.rounds_test.proofs.path.run.Statement.{statement}
 use Rattle.rounds_test.proofs.path.run.Tie as tie
 
-mix-requires : tie.Need-mix-requires
-mix-requires c κs = search needs
+seed-requires : tie.Need-seed-requires
+seed-requires c κs = search needs
 
 pool-of-requires : tie.Need-pool-of-requires
 pool-of-requires c κs = search needs
@@ -39,7 +39,7 @@ pub run-spec : {M : Type 1} → statement M
 run-spec =
     tie.close
     (tie.spec
-    mix-requires
+    seed-requires
     pool-of-requires
     users-requires
     rate-requires

@@ -6,10 +6,10 @@ use Rattle.rounds_test.proofs.run.turns.Statement.{statement}
 use Rattle.rounds_test.proofs.run.turns.Tie as tie
 
 abbrev Inv-loop : tie.InvT-loop
-Inv-loop s seed book₀ n w₀ x₀ i₀ book w x i = length book ≡ length book₀
+Inv-loop s first book₀ n w₀ x₀ i₀ book w x i = length book ≡ length book₀
 
 abbrev μ-loop : tie.MeasureT-loop
-μ-loop s seed book₀ n w₀ x₀ i₀ book w x i = n - i
+μ-loop s first book₀ n w₀ x₀ i₀ book w x i = n - i
 
 senders-requires : tie.Need-senders-requires Inv-loop μ-loop
 senders-requires c κs = search needs
@@ -26,8 +26,8 @@ loop-holds c = search needs
 wrapping-add-usize-requires-2 : tie.Need-wrapping-add-usize-requires-2 Inv-loop μ-loop
 wrapping-add-usize-requires-2 c κs = search needs
 
-mix-requires : tie.Need-mix-requires Inv-loop μ-loop
-mix-requires c κs = search needs
+seed-requires : tie.Need-seed-requires Inv-loop μ-loop
+seed-requires c κs = search needs
 
 turn-requires : tie.Need-turn-requires Inv-loop μ-loop
 turn-requires c κs = search needs
@@ -58,7 +58,7 @@ turns-spec =
     wrapping-add-usize-requires
     loop-holds
     wrapping-add-usize-requires-2
-    mix-requires
+    seed-requires
     turn-requires
     add-i
     loop-less

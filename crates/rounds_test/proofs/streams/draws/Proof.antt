@@ -4,10 +4,10 @@ use Rattle.rounds_test.proofs.streams.draws.Statement.{statement}
 use Rattle.rounds_test.proofs.streams.draws.Tie as tie
 
 abbrev Inv-loop : tie.InvT-loop
-Inv-loop stream seed s₀ x₀ i₀ s x i = i ≤ 24
+Inv-loop stream first s₀ x₀ i₀ s x i = i ≤ 24
 
 abbrev μ-loop : tie.MeasureT-loop
-μ-loop stream seed s₀ x₀ i₀ s x i = 24 - i
+μ-loop stream first s₀ x₀ i₀ s x i = 24 - i
 
 loop-holds : tie.Need-loop-holds Inv-loop μ-loop
 loop-holds c = search needs
@@ -15,8 +15,8 @@ loop-holds c = search needs
 wrapping-add-usize-requires : tie.Need-wrapping-add-usize-requires Inv-loop μ-loop
 wrapping-add-usize-requires c κs = search needs
 
-mix-requires : tie.Need-mix-requires Inv-loop μ-loop
-mix-requires c κs = search needs
+seed-requires : tie.Need-seed-requires Inv-loop μ-loop
+seed-requires c κs = search needs
 
 one-draw-requires : tie.Need-one-draw-requires Inv-loop μ-loop
 one-draw-requires c κs = search needs
@@ -41,7 +41,7 @@ draws-spec =
     μ-loop
     loop-holds
     wrapping-add-usize-requires
-    mix-requires
+    seed-requires
     one-draw-requires
     add-i
     loop-less

@@ -5,8 +5,8 @@ use native.Mathlib.Omega.{arith}
 use Rattle.rounds_test.proofs.streams.run.Statement.{statement}
 use Rattle.rounds_test.proofs.streams.run.Tie as tie
 
-mix-requires : tie.Need-mix-requires
-mix-requires c κs = search needs
+seed-requires : tie.Need-seed-requires
+seed-requires c κs = search needs
 
 pick-requires : tie.Need-pick-requires
 pick-requires c κs = search needs
@@ -30,7 +30,7 @@ pub run-spec : {M : Type 1} → statement M
 run-spec =
     tie.close
     (tie.spec
-    mix-requires
+    seed-requires
     pick-requires
     returns
     array-borrow-prefix-stream

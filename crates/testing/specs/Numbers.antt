@@ -1,0 +1,61 @@
+-- Numbers drawn from a seed, and arithmetic. All are shut, so that a caller's proof meets short names only.
+use Prim.Native.Nat.{ℕ, zero, suc, _+_, _*_, _/_, _%_}
+use mathlib.Core.Bool.{Bool, cond}
+use mathlib.Core.List.{List, [], _∷_}
+use lib.Bits.{bitXor}
+use lib.Dec.{eqb}
+use lib.ListN.{getD}
+use Rattle.arithmetic.specs.Field.{residue}
+
+-- what a leaves when divided by n, and how often n is in a; 0 where n is 0
+unfoldable pub residueOf : ℕ → ℕ → ℕ
+residueOf n a = residue n a
+
+unfoldable pub quotientOf : ℕ → ℕ → ℕ
+quotientOf n a = cond (eqb n 0) 0 (a / n)
+
+-- the lower half of a number of 32 bits, and the product of two
+unfoldable pub low : ℕ → ℕ
+low a = a % 65536
+
+unfoldable pub lowProduct : ℕ → ℕ → ℕ
+lowProduct a b = low a * low b
+
+unfoldable pub mulAddOf : ℕ → ℕ → ℕ → ℕ
+mulAddOf a m b = a % 1099511627776 + lowProduct m b
+
+-- repeated multiplication modulo q
+unfoldable pub powerOf : ℕ → ℕ → ℕ → ℕ
+powerOf q a zero = residueOf q 1
+powerOf q a (suc n) = residueOf q (lowProduct (powerOf q a n) a)
+
+-- how many numbers below n have the property
+unfoldable pub howMany : ℕ → (ℕ → Bool) → ℕ
+howMany zero f = 0
+howMany (suc n) f = howMany n f + cond (f n) 1 0
+
+unfoldable pub divisorsOf : ℕ → ℕ
+divisorsOf q = howMany q (λ d. eqb (residueOf (d + 1) q) 0)
+
+unfoldable pub primeOf : ℕ → ℕ
+primeOf n = getD (2 ∷ 3 ∷ 5 ∷ 7 ∷ 257 ∷ 65519 ∷ []) n 65521
+
+-- ---- numbers drawn
+
+-- the state after x, of 32 bits
+unfoldable pub stepOf : ℕ → ℕ
+stepOf x = (bitXor (x % 4294967296) (x % 4294967296 / 65536) % 4294967296 * 73244475 + 1013904223) % 4294967296
+
+unfoldable pub seedOf : ℕ → ℕ
+seedOf x = stepOf (stepOf (stepOf x))
+
+-- a number below n, of a state's upper half
+unfoldable pub drawOf : ℕ → ℕ → ℕ
+drawOf x n = residueOf n (x / 65536)
+
+-- number i of the seed x, of 32 bits and of 16
+unfoldable pub stateOf : ℕ → ℕ → ℕ
+stateOf x i = seedOf (x % 4294967296 + i % 65536 * 65537)
+
+unfoldable pub drawnOf : ℕ → ℕ → ℕ
+drawnOf x i = stateOf x i / 65536 % 65536
