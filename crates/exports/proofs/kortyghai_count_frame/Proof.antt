@@ -5,15 +5,6 @@ use Rattle.exports.specs.Packed.{packed}
 use Rattle.exports.proofs.kortyghai_count_frame.Statement.{statement}
 use Rattle.exports.proofs.kortyghai_count_frame.Tie as tie
 
-count-requires : tie.Need-count-requires
-count-requires c κs = search needs
-
-verdict-code-requires : tie.Need-verdict-code-requires
-verdict-code-requires c κs = search needs
-
-pack-requires : tie.Need-pack-requires
-pack-requires c κs = search needs
-
 -- the code of the answer is the step's, and what is lent is the next round's
 returns : tie.Need-returns
 returns c =
@@ -23,4 +14,4 @@ returns c =
     )
 
 pub kortyghai-count-frame-spec : {M : Type 1} → statement M
-kortyghai-count-frame-spec = tie.close (tie.spec count-requires verdict-code-requires pack-requires returns)
+kortyghai-count-frame-spec = tie.close (tie.spec (search needs) (search needs) (search needs) returns)

@@ -67,32 +67,11 @@ module _ (c : tie.After-plan) where
   bounds : Bounds (c .plan .given .0 .0)
   bounds = bounds-known (c .plan .given .0 .0) (ap inBounds plan-is ∙ readable B out read .bounds)
 
-code-of-requires : tie.Need-code-of-requires
-code-of-requires c κs = search needs
-
-pack-requires : tie.Need-pack-requires
-pack-requires c κs = search needs
-
 returns : tie.Need-returns
 returns c =
     let a = c .before .before .before .before .before .before .args in
     let e = counts-refuse (a .bytes .now) (a .table .now) (a .counts .now) (c .before .before .if1 .taken) in
     (c .pack .ensures ∙ ap packed (c .before .code-of .ensures ∙ e), kept (a .bytes .now) (a .table .now) (a .counts .now) WrongLength e)
-
-read-record-requires : tie.Need-read-record-requires
-read-record-requires c κs = search needs
-
-enum-known-refusal : tie.Need-enum-known-refusal
-enum-known-refusal c = search needs
-
-code-of-requires-2 : tie.Need-code-of-requires-2
-code-of-requires-2 c κs = search needs
-
-pack-requires-2 : tie.Need-pack-requires-2
-pack-requires-2 c κs = search needs
-
-enum-known-plan : tie.Need-enum-known-plan
-enum-known-plan c = search needs
 
 write-counts-requires : tie.Need-write-counts-requires
 write-counts-requires c κs =
@@ -103,15 +82,6 @@ write-counts-requires c κs =
       omega (arith, b .few-symbols),
       five (c .before .before),
     )
-
-verdict-code-requires : tie.Need-verdict-code-requires
-verdict-code-requires c κs = search needs
-
-pack-requires-3 : tie.Need-pack-requires-3
-pack-requires-3 c κs = search needs
-
-same-length : tie.Need-same-length
-same-length c = search needs
 
 returns-2 : tie.Need-returns-2
 returns-2 c =
@@ -127,12 +97,6 @@ returns-2 c =
         keep .1,
       ),
     )
-
-same-length-2 : tie.Need-same-length-2
-same-length-2 c = search needs
-
-same-length-3 : tie.Need-same-length-3
-same-length-3 c = search needs
 
 returns-3 : tie.Need-returns-3
 returns-3 c =
@@ -150,19 +114,19 @@ pub kortyghai-read-record-spec : {M : Type 1} → statement M
 kortyghai-read-record-spec =
     tie.close
     (tie.spec
-    code-of-requires
-    pack-requires
+    (search needs)
+    (search needs)
     returns
-    read-record-requires
-    enum-known-refusal
-    code-of-requires-2
-    pack-requires-2
-    enum-known-plan
+    (search needs)
+    (search needs)
+    (search needs)
+    (search needs)
+    (search needs)
     write-counts-requires
-    verdict-code-requires
-    pack-requires-3
-    same-length
+    (search needs)
+    (search needs)
+    (search needs)
     returns-2
-    same-length-2
-    same-length-3
+    (search needs)
+    (search needs)
     returns-3)

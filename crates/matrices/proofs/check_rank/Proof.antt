@@ -18,14 +18,8 @@ mul-if3 c = omega (arith, few-numbers (c .before .before .before .args .rows) (c
 returns-3 : tie.Need-returns-3
 returns-3 c = simp (le-leb _ _ (c .before .before .if1 .left), le-leb _ _ (c .before .if2 .left), ne-eqb _ _ (c .if3 .taken))
 
-is-prime-requires : tie.Need-is-prime-requires
-is-prime-requires c κs = search needs
-
 returns-4 : tie.Need-returns-4
 returns-4 c = simp (le-leb _ _ (c .before .before .before .before .if1 .left), le-leb _ _ (c .before .before .before .if2 .left), eq-eqb _ _ (c .before .before .if3 .left), sym (c .before .is-prime .ensures) ∙ not-true _ (c .if4 .taken))
-
-all-below-requires : tie.Need-all-below-requires
-all-below-requires c κs = search needs
 
 returns-5 : tie.Need-returns-5
 returns-5 c = simp (le-leb _ _ (c .before .before .before .before .before .before .if1 .left), le-leb _ _ (c .before .before .before .before .before .if2 .left), eq-eqb _ _ (c .before .before .before .before .if3 .left), sym (c .before .before .before .is-prime .ensures) ∙ not-false _ (c .before .before .if4 .left), sym (c .before .all-below .ensures) ∙ not-true _ (c .if5 .taken))
@@ -41,8 +35,8 @@ check-rank-spec =
     returns-2
     mul-if3
     returns-3
-    is-prime-requires
+    (search needs)
     returns-4
-    all-below-requires
+    (search needs)
     returns-5
     returns-6)

@@ -7,26 +7,11 @@ use Rattle.matrices.specs.Tables.{fused, cleared}
 use Rattle.matrices.proofs.clear.Statement.{statement}
 use Rattle.matrices.proofs.clear.Tie as tie
 
-mul-x : tie.Need-mul-x
-mul-x c = search needs
-
-slice-read-x : tie.Need-slice-read-x
-slice-read-x c = search needs
-
 returns : tie.Need-returns
 unfolding cleared
 returns c =
     let a = c .before .before .before .before .args in
     rw (eq-eqb (getD (a .row .now) (a .p) 0) 0 (c .if1 .taken))
-
-opposite-mod-requires : tie.Need-opposite-mod-requires
-opposite-mod-requires c κs = search needs
-
-fuse-requires : tie.Need-fuse-requires
-fuse-requires c κs = search needs
-
-same-length : tie.Need-same-length
-same-length c = search needs
 
 returns-2 : tie.Need-returns-2
 unfolding cleared
@@ -38,4 +23,4 @@ returns-2 c =
 pub clear-spec : {M : Type 1} → statement M
 clear-spec =
     tie.close
-    (tie.spec mul-x slice-read-x returns opposite-mod-requires fuse-requires same-length returns-2)
+    (tie.spec (search needs) (search needs) returns (search needs) (search needs) (search needs) returns-2)

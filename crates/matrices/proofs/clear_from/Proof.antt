@@ -32,23 +32,11 @@ mul-inverse-mod c = omega (arith, fits (c .before), c .before .pre .4)
 slice-read-inverse-mod : tie.Need-slice-read-inverse-mod
 slice-read-inverse-mod c = omega (arith, fits (c .before .before), c .before .before .pre .4)
 
-inverse-mod-requires : tie.Need-inverse-mod-requires
-inverse-mod-requires c κs = search needs
-
 mul-scale : tie.Need-mul-scale
 mul-scale c = omega (arith, fits (c .before .before .before))
 
-sub-scale : tie.Need-sub-scale
-sub-scale c = search needs
-
-part-scale-start : tie.Need-part-scale-start
-part-scale-start c = search needs
-
 part-scale-end : tie.Need-part-scale-end
 part-scale-end c = fits (c .before .before .before .before)
-
-array-borrow-prefix-s : tie.Need-array-borrow-prefix-s
-array-borrow-prefix-s c = search needs
 
 slice-aggregate-scale : tie.Need-slice-aggregate-scale
 slice-aggregate-scale c = sym (length-take-le (c .before .before .before .before .before .before .args .cols) _ (c .before .before .before .before .before .before .pre .1))
@@ -61,9 +49,6 @@ scale-requires c κs =
 mul-start : tie.Need-mul-start
 mul-start c = omega (arith, before-fits (c .before .before .before .before .before .before .before .before))
 
-sub-clear-rows : tie.Need-sub-clear-rows
-sub-clear-rows c = search needs
-
 mul-clear-rows : tie.Need-mul-clear-rows
 mul-clear-rows c = omega (arith, before-fits (c .before .before .before .before .before .before .before .before))
 
@@ -72,9 +57,6 @@ sub-clear-rows-2 c = before-fits (c .before .before .before .before .before .bef
 
 part-clear-rows-start : tie.Need-part-clear-rows-start
 part-clear-rows-start c = before-fits (c .before .before .before .before .before .before .before .before)
-
-part-clear-rows-end : tie.Need-part-clear-rows-end
-part-clear-rows-end c = search needs
 
 array-share-prefix-s : tie.Need-array-share-prefix-s
 array-share-prefix-s c =
@@ -95,9 +77,6 @@ clear-rows-requires c κs =
       front-length (a .q) (a .cols) (a .i) (a .i * a .cols + a .cols - a .i * a .cols) _ (a .table .now) (c .before .before .before .scale .last .1 .1 .1 .0) _ (omega arith) (fits (c .before .before .before .before .before .before .before .before .before .before)) (c .before .before .before .scale .ensures),
     )
 
-same-length : tie.Need-same-length
-same-length c = search needs
-
 returns : tie.Need-returns
 returns c =
     let a = c .before .before .before .before .before .before .before .before .before .before .before .before .before .args in
@@ -117,22 +96,22 @@ clear-from-spec =
     add-inverse-mod
     mul-inverse-mod
     slice-read-inverse-mod
-    inverse-mod-requires
+    (search needs)
     mul-scale
-    sub-scale
-    part-scale-start
+    (search needs)
+    (search needs)
     part-scale-end
-    array-borrow-prefix-s
+    (search needs)
     slice-aggregate-scale
     scale-requires
     mul-start
-    sub-clear-rows
+    (search needs)
     mul-clear-rows
     sub-clear-rows-2
     part-clear-rows-start
-    part-clear-rows-end
+    (search needs)
     array-share-prefix-s
     slice-aggregate-clear-rows
     clear-rows-requires
-    same-length
+    (search needs)
     returns)

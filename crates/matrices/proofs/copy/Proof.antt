@@ -3,12 +3,6 @@ use borrow.Author.Needs.{needs}
 use Rattle.matrices.proofs.copy.Statement.{statement}
 use Rattle.matrices.proofs.copy.Tie as tie
 
-copy-all-requires : tie.Need-copy-all-requires
-copy-all-requires c κs = search needs
-
-same-length : tie.Need-same-length
-same-length c = search needs
-
 returns : tie.Need-returns
 returns c = simp (eq-eqb _ _ (c .before .before .before .before .if1 .taken)) (c .before .before .copy-all .ensures)
 
@@ -16,4 +10,4 @@ returns-2 : tie.Need-returns-2
 returns-2 c = simp (ne-eqb _ _ (c .if1 .left))
 
 pub copy-spec : {M : Type 1} → statement M
-copy-spec = tie.close (tie.spec copy-all-requires same-length returns returns-2)
+copy-spec = tie.close (tie.spec (search needs) (search needs) returns returns-2)

@@ -12,9 +12,6 @@ use Rattle.matrices.proofs.count_in_copy.Tie as tie
 numbers : (s : tie.Start) → s .args .rows * s .args .cols ≤ 2304
 numbers s = few-numbers (s .args .rows) (s .args .cols) (s .pre .0) (s .pre .1)
 
-mul-m : tie.Need-mul-m
-mul-m c = search needs
-
 array-borrow-prefix-t : tie.Need-array-borrow-prefix-t
 array-borrow-prefix-t c = numbers (c .before)
 
@@ -55,7 +52,7 @@ pub count-in-copy-spec : {M : Type 1} → statement M
 count-in-copy-spec =
     tie.close
     (tie.spec
-    mul-m
+    (search needs)
     array-borrow-prefix-t
     slice-aggregate-copy-all
     copy-all-requires

@@ -30,15 +30,6 @@ returns-4 c =
     no-pivot (a .q) (a .rows) (a .cols) (a .i) (a .table .now) 0
     (rw (le-leb _ _ (c .before .before .before .if1 .left), le-leb _ _ (c .before .before .if2 .left), eq-eqb _ _ (c .before .if3 .left), le-ltb _ _ (c .if4 .taken)))
 
-eliminate-from-requires : tie.Need-eliminate-from-requires
-eliminate-from-requires c κs = search needs
-
-same-length : tie.Need-same-length
-same-length c = search needs
-
-returns-5 : tie.Need-returns-5
-returns-5 c = search needs
-
 pub eliminate-spec : {M : Type 1} → statement M
 eliminate-spec =
     tie.close
@@ -48,6 +39,6 @@ eliminate-spec =
     mul-if3
     returns-3
     returns-4
-    eliminate-from-requires
-    same-length
-    returns-5)
+    (search needs)
+    (search needs)
+    (λ c. search needs))

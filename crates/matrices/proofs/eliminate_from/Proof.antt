@@ -34,20 +34,8 @@ add-e c = omega (arith, fits (c .before))
 mul-pivot : tie.Need-mul-pivot
 mul-pivot c = omega (arith, fits (c .before))
 
-sub-pivot : tie.Need-sub-pivot
-sub-pivot c = search needs
-
-part-pivot-start : tie.Need-part-pivot-start
-part-pivot-start c = search needs
-
 part-pivot-end : tie.Need-part-pivot-end
 part-pivot-end c = fits (c .before .before)
-
-pivot-requires : tie.Need-pivot-requires
-pivot-requires c κs = search needs
-
-same-length : tie.Need-same-length
-same-length c = search needs
 
 returns : tie.Need-returns
 returns c =
@@ -60,9 +48,6 @@ has c =
     let s = c .before .before .before .before .before in
     is-pivot s ∙ lt-ltb _ _ (subst (λ (n : ℕ). n < s .args .cols) (found s (c .before .pivot .ensures)) (c .if1 .left))
 
-same-length-2 : tie.Need-same-length-2
-same-length-2 c = search needs
-
 returns-2 : tie.Need-returns-2
 returns-2 c =
     let a = c .before .before .before .before .before .before .args in
@@ -72,9 +57,6 @@ clear-from-requires : tie.Need-clear-from-requires
 clear-from-requires c κs =
     let s = c .before .before .before .before .before .before .before in
     (s .pre .2, s .pre .1, s .pre .3, s .pre .4, c .before .before .if1 .left, found s (c .before .before .before .pivot .ensures))
-
-same-length-3 : tie.Need-same-length-3
-same-length-3 c = search needs
 
 returns-3 : tie.Need-returns-3
 returns-3 c =
@@ -89,14 +71,14 @@ eliminate-from-spec =
     mul-b
     add-e
     mul-pivot
-    sub-pivot
-    part-pivot-start
+    (search needs)
+    (search needs)
     part-pivot-end
-    pivot-requires
-    same-length
+    (search needs)
+    (search needs)
     returns
-    same-length-2
+    (search needs)
     returns-2
     clear-from-requires
-    same-length-3
+    (search needs)
     returns-3)

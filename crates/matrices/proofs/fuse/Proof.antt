@@ -20,30 +20,6 @@ abbrev μ-loop : tie.MeasureT-loop
 loop-holds : tie.Need-loop-holds Inv-loop μ-loop
 loop-holds c = (omega arith, refl, refl)
 
-mul-mul-add-mod : tie.Need-mul-mul-add-mod Inv-loop μ-loop
-mul-mul-add-mod c = search needs
-
-slice-read-mul-add-mod : tie.Need-slice-read-mul-add-mod Inv-loop μ-loop
-slice-read-mul-add-mod c = search needs
-
-mul-mul-add-mod-2 : tie.Need-mul-mul-add-mod-2 Inv-loop μ-loop
-mul-mul-add-mod-2 c = search needs
-
-shared-slice-read-mul-add-mod : tie.Need-shared-slice-read-mul-add-mod Inv-loop μ-loop
-shared-slice-read-mul-add-mod c = search needs
-
-mul-add-mod-requires : tie.Need-mul-add-mod-requires Inv-loop μ-loop
-mul-add-mod-requires c κs = search needs
-
-mul-row : tie.Need-mul-row Inv-loop μ-loop
-mul-row c = search needs
-
-slice-write-row : tie.Need-slice-write-row Inv-loop μ-loop
-slice-write-row c = search needs
-
-add-k : tie.Need-add-k Inv-loop μ-loop
-add-k c = search needs
-
 loop-less : tie.Need-loop-less Inv-loop μ-loop
 loop-less c =
     let s = c .before .before .before .before .loop in
@@ -81,14 +57,14 @@ fuse-spec =
     Inv-loop
     μ-loop
     loop-holds
-    mul-mul-add-mod
-    slice-read-mul-add-mod
-    mul-mul-add-mod-2
-    shared-slice-read-mul-add-mod
-    mul-add-mod-requires
-    mul-row
-    slice-write-row
-    add-k
+    (search needs)
+    (search needs)
+    (search needs)
+    (search needs)
+    (search needs)
+    (search needs)
+    (search needs)
+    (search needs)
     loop-less
     loop-again
     same-length

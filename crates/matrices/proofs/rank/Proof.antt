@@ -9,15 +9,6 @@ use borrow.Author.Needs.{needs}
 use Rattle.matrices.proofs.rank.Statement.{statement}
 use Rattle.matrices.proofs.rank.Tie as tie
 
-check-rank-requires : tie.Need-check-rank-requires
-check-rank-requires c κs = search needs
-
-enum-known-refusal : tie.Need-enum-known-refusal
-enum-known-refusal c = search needs
-
-enum-told : tie.Need-enum-told
-enum-told c = search needs
-
 -- the checks accepted
 told : (c : tie.After-enum-told) → (let a = c .before .before .before .before .args in accepted ≡ firstOf (rankChecks (a .q) (a .rows) (a .cols) (a .table .now)))
 told c = sym (ap verdictCode (c .enum-told .given .1)) ∙ c .before .before .check-rank .ensures
@@ -45,9 +36,9 @@ pub rank-spec : {M : Type 1} → statement M
 rank-spec =
     tie.close
     (tie.spec
-    check-rank-requires
-    enum-known-refusal
-    enum-told
+    (search needs)
+    (search needs)
+    (search needs)
     count-in-copy-requires
     returns
     returns-2)

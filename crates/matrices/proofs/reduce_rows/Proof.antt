@@ -31,16 +31,7 @@ returns-3 c =
     = λ i. rw (le-leb _ _ (c .before .before .if1 .left), le-leb _ _ (c .before .if2 .left), ne-eqb _ _ (c .if3 .taken)) in
     (unshaped-count (a .q) (a .rows) (a .cols) (a .table .now) none (a .rows) 0, unshaped-reduced (a .q) (a .rows) (a .cols) (a .table .now) none (a .rows) 0)
 
-count-pivots-requires : tie.Need-count-pivots-requires
-count-pivots-requires c κs = search needs
-
-same-length : tie.Need-same-length
-same-length c = search needs
-
-returns-4 : tie.Need-returns-4
-returns-4 c = search needs
-
 pub reduce-rows-spec : {M : Type 1} → statement M
 reduce-rows-spec =
     tie.close
-    (tie.spec returns returns-2 mul-if3 returns-3 count-pivots-requires same-length returns-4)
+    (tie.spec returns returns-2 mul-if3 returns-3 (search needs) (search needs) (λ c. search needs))

@@ -19,27 +19,6 @@ abbrev μ-loop : tie.MeasureT-loop
 loop-holds : tie.Need-loop-holds Inv-loop μ-loop
 loop-holds c = (omega arith, sym (c .before .before .pre), refl)
 
-mul-mul-mod : tie.Need-mul-mul-mod Inv-loop μ-loop
-mul-mul-mod c = search needs
-
-shared-slice-read-mul-mod : tie.Need-shared-slice-read-mul-mod Inv-loop μ-loop
-shared-slice-read-mul-mod c = search needs
-
-mul-mod-requires : tie.Need-mul-mod-requires Inv-loop μ-loop
-mul-mod-requires c κs = search needs
-
-mul-out : tie.Need-mul-out Inv-loop μ-loop
-mul-out c = search needs
-
-slice-write-out : tie.Need-slice-write-out Inv-loop μ-loop
-slice-write-out c = search needs
-
-add-k : tie.Need-add-k Inv-loop μ-loop
-add-k c = search needs
-
-loop-less : tie.Need-loop-less Inv-loop μ-loop
-loop-less c = search needs
-
 loop-again : tie.Need-loop-again Inv-loop μ-loop
 loop-again c =
     let s = c .before .before .before .loop in
@@ -70,13 +49,13 @@ scale-spec =
     Inv-loop
     μ-loop
     loop-holds
-    mul-mul-mod
-    shared-slice-read-mul-mod
-    mul-mod-requires
-    mul-out
-    slice-write-out
-    add-k
-    loop-less
+    (search needs)
+    (search needs)
+    (search needs)
+    (search needs)
+    (search needs)
+    (search needs)
+    (search needs)
     loop-again
     same-length
     returns)

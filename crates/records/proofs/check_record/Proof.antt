@@ -71,17 +71,11 @@ past-lengths c = past-bounds (c .before .before .before .before) ∙ simp (eq-eq
 past-prime : (c : tie.Else5) → found (c .before .before .before .before .before .before .before .before .before .before .before .before .before) ≡ firstOf (left 4 (c .before .before .before .before .before .before .before .before .before .before .before .before .before))
 past-prime c = past-lengths (c .before .before) ∙ simp (prime-is (c .before) ∙ not-false _ (c .if5 .left))
 
-bad-trailer-requires : tie.Need-bad-trailer-requires
-bad-trailer-requires c κs = search needs
-
 returns : tie.Need-returns
 returns c = refused (c .before .before .before .before) BadTrailer (simp (trailer-is (c .before) ∙ c .if1 .taken))
 
 plan-in-requires : tie.Need-plan-in-requires
 plan-in-requires c κs = good c
-
-in-bounds-requires : tie.Need-in-bounds-requires
-in-bounds-requires c κs = search needs
 
 returns-2 : tie.Need-returns-2
 returns-2 c = refused (c .before .before .before .before .before .before .before) OutOfBounds (past-trailer (c .before .before .before) ∙ simp (bounds-are (c .before) ∙ not-true _ (c .if2 .taken)))
@@ -101,17 +95,11 @@ returns-3 c =
 returns-4 : tie.Need-returns-4
 returns-4 c = refused (c .before .before .before .before .before .before .before .before .before .before .before) WrongLength (past-bounds (c .before .before .before .before) ∙ simp (eq-eqb _ _ (sized (c .before)), ne-eqb _ _ (c .if4 .taken)))
 
-is-prime-requires : tie.Need-is-prime-requires
-is-prime-requires c κs = search needs
-
 returns-5 : tie.Need-returns-5
 returns-5 c = refused (c .before .before .before .before .before .before .before .before .before .before .before .before .before) NotPrime (past-lengths (c .before .before) ∙ simp (prime-is (c .before) ∙ not-true _ (c .if5 .taken)))
 
 start-in-requires : tie.Need-start-in-requires
 start-in-requires c κs = good (c .before .before .before .before .before .before .before .before .before)
-
-add-words-below : tie.Need-add-words-below
-add-words-below c = search needs
 
 symbols-requires : tie.Need-symbols-requires
 symbols-requires c κs = in-range (c .before .before .before .before .before .before .before)
@@ -134,19 +122,19 @@ pub check-record-spec : {M : Type 1} → statement M
 check-record-spec =
     tie.close
     (tie.spec
-    bad-trailer-requires
+    (search needs)
     returns
     plan-in-requires
-    in-bounds-requires
+    (search needs)
     returns-2
     distance-in-requires
     record-size-requires
     returns-3
     returns-4
-    is-prime-requires
+    (search needs)
     returns-5
     start-in-requires
-    add-words-below
+    (search needs)
     symbols-requires
     words-below-requires
     returns-6

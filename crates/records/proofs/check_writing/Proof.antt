@@ -15,12 +15,6 @@ use Rattle.vetting.proofs.VerdictLaws.{table-passed}
 use Rattle.records.proofs.check_writing.Statement.{statement}
 use Rattle.records.proofs.check_writing.Tie as tie
 
-check-plan-requires : tie.Need-check-plan-requires
-check-plan-requires c κs = search needs
-
-is-accepted-requires : tie.Need-is-accepted-requires
-is-accepted-requires c κs = search needs
-
 -- the last check
 abbrev room : tie.Start → List (Bool × Code)
 room s = (not (eqb (length (s .args .out .now)) (recordSize (s .args .plan))), code 4) ∷ []
@@ -57,8 +51,8 @@ pub check-writing-spec : {M : Type 1} → statement M
 check-writing-spec =
     tie.close
     (tie.spec
-    check-plan-requires
-    is-accepted-requires
+    (search needs)
+    (search needs)
     returns
     record-size-requires
     returns-2

@@ -10,9 +10,6 @@ use Rattle.records.proofs.Trailers.{start-room}
 use Rattle.records.proofs.plan_in.Statement.{statement}
 use Rattle.records.proofs.plan_in.Tie as tie
 
-start-in-requires : tie.Need-start-in-requires
-start-in-requires c κs = search needs
-
 -- ten bytes from the start on
 room : (c : tie.After-start-in) → c .start-in .result + 10 ≤ length (c .before .before .args .bytes .now)
 room c = omega (arith, c .start-in .ensures, start-room (c .before .before .args .bytes .now) (c .before .before .pre))
@@ -23,17 +20,11 @@ shared-slice-read-t4 c = omega (arith, room (c .before))
 cast-t5 : tie.Need-cast-t5
 cast-t5 c = omega (arith, c .shared-slice-known2 .given (c .before .start-in .result))
 
-add-t6 : tie.Need-add-t6
-add-t6 c = search needs
-
 shared-slice-read-t8 : tie.Need-shared-slice-read-t8
 shared-slice-read-t8 c = omega (arith, room (c .before .before))
 
 cast-t9 : tie.Need-cast-t9
 cast-t9 c = omega (arith, c .shared-slice-known3 .given (c .before .before .start-in .result + 1))
-
-add-t10 : tie.Need-add-t10
-add-t10 c = search needs
 
 shared-slice-read-t12 : tie.Need-shared-slice-read-t12
 shared-slice-read-t12 c = omega (arith, room (c .before .before .before))
@@ -41,17 +32,11 @@ shared-slice-read-t12 c = omega (arith, room (c .before .before .before))
 cast-t13 : tie.Need-cast-t13
 cast-t13 c = omega (arith, c .shared-slice-known4 .given (c .before .before .before .start-in .result + 2))
 
-add-t14 : tie.Need-add-t14
-add-t14 c = search needs
-
 shared-slice-read-t16 : tie.Need-shared-slice-read-t16
 shared-slice-read-t16 c = omega (arith, room (c .before .before .before .before))
 
 cast-t17 : tie.Need-cast-t17
 cast-t17 c = omega (arith, c .shared-slice-known5 .given (c .before .before .before .before .start-in .result + 3))
-
-add-word-at : tie.Need-add-word-at
-add-word-at c = search needs
 
 word-at-requires : tie.Need-word-at-requires
 word-at-requires c κs = omega (arith, room (c .before .before .before .before))
@@ -72,18 +57,18 @@ pub plan-in-spec : {M : Type 1} → statement M
 plan-in-spec =
     tie.close
     (tie.spec
-    start-in-requires
+    (λ c κs. search needs)
     shared-slice-read-t4
     cast-t5
-    add-t6
+    (search needs)
     shared-slice-read-t8
     cast-t9
-    add-t10
+    (search needs)
     shared-slice-read-t12
     cast-t13
-    add-t14
+    (search needs)
     shared-slice-read-t16
     cast-t17
-    add-word-at
+    (search needs)
     word-at-requires
     returns)

@@ -30,17 +30,8 @@ plan-is c =
 in-range : (c : tie.After-planned) → inBounds (c .planned .given .0 .0) ≡ true
 in-range c = ap inBounds (plan-is c) ∙ passed c .bounds
 
-check-record-requires : tie.Need-check-record-requires
-check-record-requires c κs = search needs
-
-enum-known-planned : tie.Need-enum-known-planned
-enum-known-planned c = search needs
-
 start-in-requires : tie.Need-start-in-requires
 start-in-requires c κs = passed (c .before) .trailer
-
-add-fill : tie.Need-add-fill
-add-fill c = search needs
 
 symbols-requires : tie.Need-symbols-requires
 symbols-requires c κs = in-range (c .before .before)
@@ -53,12 +44,6 @@ fill-requires c κs =
       omega (arith, c .before .symbols .ensures, bounded (p .planned .given .0 .0) (in-range p) .symbols),
       passed p .lent,
     )
-
-enum-told : tie.Need-enum-told
-enum-told c = search needs
-
-same-length : tie.Need-same-length
-same-length c = search needs
 
 returns : tie.Need-returns
 returns c =
@@ -74,9 +59,6 @@ returns c =
       ),
     )
 
-same-length-2 : tie.Need-same-length-2
-same-length-2 c = search needs
-
 returns-2 : tie.Need-returns-2
 returns-2 c =
     let a = c .before .before .before .before .before .before .args in
@@ -90,14 +72,14 @@ pub read-record-spec : {M : Type 1} → statement M
 read-record-spec =
     tie.close
     (tie.spec
-    check-record-requires
-    enum-known-planned
+    (search needs)
+    (search needs)
     start-in-requires
-    add-fill
+    (search needs)
     symbols-requires
     fill-requires
-    enum-told
-    same-length
+    (search needs)
+    (search needs)
     returns
-    same-length-2
+    (search needs)
     returns-2)

@@ -4,20 +4,11 @@ use Rattle.records.proofs.PlanSizes.{bounded}
 use Rattle.records.proofs.record_size.Statement.{statement}
 use Rattle.records.proofs.record_size.Tie as tie
 
-add-result : tie.Need-add-result
-add-result c = search needs
-
-symbols-requires : tie.Need-symbols-requires
-symbols-requires c κs = search needs
-
 mul-result : tie.Need-mul-result
 mul-result c = omega (arith, c .symbols .ensures, bounded (c .before .args .plan) (c .before .pre) .symbols)
 
 add-result-2 : tie.Need-add-result-2
 add-result-2 c = omega (arith, c .symbols .ensures, bounded (c .before .args .plan) (c .before .pre) .symbols)
 
-returns : tie.Need-returns
-returns c = search needs
-
 pub record-size-spec : {M : Type 1} → statement M
-record-size-spec = tie.close (tie.spec add-result symbols-requires mul-result add-result-2 returns)
+record-size-spec = tie.close (tie.spec (search needs) (λ c κs. search needs) mul-result add-result-2 (search needs))

@@ -10,8 +10,5 @@ distance-in-requires c κs = trailer-of (c .before .args .bytes .now) (c .before
 sub-result : tie.Need-sub-result
 sub-result c = omega (arith, c .distance-in .ensures, trailer-of (c .before .before .args .bytes .now) (c .before .before .pre) .inside)
 
-returns : tie.Need-returns
-returns c = search needs
-
 pub start-in-spec : {M : Type 1} → statement M
-start-in-spec = tie.close (tie.spec distance-in-requires sub-result returns)
+start-in-spec = tie.close (tie.spec distance-in-requires sub-result (search needs))

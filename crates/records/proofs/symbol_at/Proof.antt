@@ -4,15 +4,6 @@ use Rattle.records.proofs.Bytes.{words-at, no-word}
 use Rattle.records.proofs.symbol_at.Statement.{statement}
 use Rattle.records.proofs.symbol_at.Tie as tie
 
-mul-word-at : tie.Need-mul-word-at
-mul-word-at c = search needs
-
-add-word-at : tie.Need-add-word-at
-add-word-at c = search needs
-
-word-at-requires : tie.Need-word-at-requires
-word-at-requires c κs = search needs
-
 returns : tie.Need-returns
 returns c = c .word-at .ensures ∙ sym (words-at _ _ _ _ (c .before .if1 .taken))
 
@@ -20,4 +11,4 @@ returns-2 : tie.Need-returns-2
 returns-2 c = sym (no-word _ _ _ _ (c .if1 .left))
 
 pub symbol-at-spec : {M : Type 1} → statement M
-symbol-at-spec = tie.close (tie.spec mul-word-at add-word-at word-at-requires returns returns-2)
+symbol-at-spec = tie.close (tie.spec (search needs) (search needs) (search needs) returns returns-2)

@@ -10,8 +10,5 @@ mul-result c = omega (arith, bounded (c .before .args .plan) (c .before .pre) .u
 mul-result-2 : tie.Need-mul-result-2
 mul-result-2 c = omega (arith, bounded (c .before .before .args .plan) (c .before .before .pre) .symbols)
 
-returns : tie.Need-returns
-returns c = search needs
-
 pub symbols-spec : {M : Type 1} → statement M
-symbols-spec = tie.close (tie.spec mul-result mul-result-2 returns)
+symbols-spec = tie.close (tie.spec mul-result mul-result-2 (search needs))

@@ -21,12 +21,6 @@ body-length c =
     let s = c .before .before .before .before .before .before .before .before in
     ap length (c .write-symbols .ensures) ∙ omega (arith, length-bytes (s .args .table .now), s .pre .1, s .pre .2)
 
-sub-end : tie.Need-sub-end
-sub-end c = search needs
-
-slice-relend-prefix-write-head : tie.Need-slice-relend-prefix-write-head
-slice-relend-prefix-write-head c = search needs
-
 slice-aggregate-write-head : tie.Need-slice-aggregate-write-head
 slice-aggregate-write-head c =
     let s = c .before .before .before in
@@ -38,27 +32,6 @@ write-head-requires c κs =
     let p = bounded (s .args .plan) (s .pre .0) in
     (omega (arith, p .clusters), omega (arith, p .size), omega (arith, p .limit), omega (arith, p .rate), length-take-le 6 (s .args .out .now) (omega (arith, s .pre .2)))
 
-sub-write-symbols : tie.Need-sub-write-symbols
-sub-write-symbols c = search needs
-
-part-write-symbols-start : tie.Need-part-write-symbols-start
-part-write-symbols-start c = search needs
-
-part-write-symbols-end : tie.Need-part-write-symbols-end
-part-write-symbols-end c = search needs
-
-write-symbols-requires : tie.Need-write-symbols-requires
-write-symbols-requires c κs = search needs
-
-sub-write-trailer : tie.Need-sub-write-trailer
-sub-write-trailer c = search needs
-
-part-write-trailer-start : tie.Need-part-write-trailer-start
-part-write-trailer-start c = search needs
-
-part-write-trailer-end : tie.Need-part-write-trailer-end
-part-write-trailer-end c = search needs
-
 write-trailer-requires : tie.Need-write-trailer-requires
 write-trailer-requires c κs =
     let s = c .before .before .before .before .before .before .before .before .before .before .before in
@@ -67,9 +40,6 @@ write-trailer-requires c κs =
       omega (arith, p .symbols, s .pre .2),
       rest-length (s .args .out .now) (c .before .before .before .before .before .before .before .write-head .last .1 .0) (c .before .before .before .write-symbols .last .1 .0) 6 (n - 4) (head-length (c .before .before .before .before .before .before .before)) (body-length (c .before .before .before)) (omega (arith, s .pre .2)) (omega arith) ∙ omega (arith, s .pre .2),
     )
-
-same-length : tie.Need-same-length
-same-length c = search needs
 
 returns : tie.Need-returns
 returns c =
@@ -87,17 +57,17 @@ pub write-parts-spec : {M : Type 1} → statement M
 write-parts-spec =
     tie.close
     (tie.spec
-    sub-end
-    slice-relend-prefix-write-head
+    (search needs)
+    (search needs)
     slice-aggregate-write-head
     write-head-requires
-    sub-write-symbols
-    part-write-symbols-start
-    part-write-symbols-end
-    write-symbols-requires
-    sub-write-trailer
-    part-write-trailer-start
-    part-write-trailer-end
+    (search needs)
+    (search needs)
+    (search needs)
+    (search needs)
+    (search needs)
+    (search needs)
+    (search needs)
     write-trailer-requires
-    same-length
+    (search needs)
     returns)

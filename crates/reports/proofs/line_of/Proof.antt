@@ -34,9 +34,6 @@ after-two c =
     let n : ℕ = c .before .before .before .args .code .number in
     typed-on (field n 0x20) _ _ _ _ (omega (arith, field-length n 0x20)) (after-one (c .before)) (c .put-field2 .ensures)
 
-empty-line-requires : tie.Need-empty-line-requires
-empty-line-requires c κs = search needs
-
 put-field-requires : tie.Need-put-field-requires
 put-field-requires c κs = room [] _ (c .empty-line .ensures) (omega arith)
 
@@ -59,7 +56,7 @@ pub line-of-spec : {M : Type 1} → statement M
 line-of-spec =
     tie.close
     (tie.spec
-    empty-line-requires
+    (search needs)
     put-field-requires
     put-field-requires-2
     put-field-requires-3

@@ -8,15 +8,6 @@ use Rattle.reports.proofs.LineLaws.{line-room}
 use Rattle.reports.proofs.vet_line.Statement.{statement}
 use Rattle.reports.proofs.vet_line.Tie as tie
 
-vet-record-requires : tie.Need-vet-record-requires
-vet-record-requires c κs = search needs
-
-verdict-code-requires : tie.Need-verdict-code-requires
-verdict-code-requires c κs = search needs
-
-line-of-requires : tie.Need-line-of-requires
-line-of-requires c κs = search needs
-
 returns : tie.Need-returns
 returns c =
     let text : List ℕ = lineOf (programCode (c .before .before .before .before .args .bytes .now)) in
@@ -27,4 +18,4 @@ returns c =
 
 pub vet-line-spec : {M : Type 1} → statement M
 vet-line-spec =
-    tie.close (tie.spec vet-record-requires verdict-code-requires line-of-requires returns)
+    tie.close (tie.spec (search needs) (search needs) (search needs) returns)

@@ -90,21 +90,6 @@ module _ (c : tie.After-plan) where
 returns : tie.Need-returns
 returns c = simp (lt-ltb _ _ (c .if1 .taken))
 
-empty-table-requires : tie.Need-empty-table-requires
-empty-table-requires c κs = search needs
-
-slice-aggregate-read-record : tie.Need-slice-aggregate-read-record
-slice-aggregate-read-record c = search needs
-
-read-record-requires : tie.Need-read-record-requires
-read-record-requires c κs = search needs
-
-enum-known-refusal : tie.Need-enum-known-refusal
-enum-known-refusal c = search needs
-
-enum-known-plan : tie.Need-enum-known-plan
-enum-known-plan c = search needs
-
 mul-n : tie.Need-mul-n
 mul-n c = omega (arith, known (c .before .before) .counts .few-users)
 
@@ -116,9 +101,6 @@ array-share-prefix-table c = inside (c .before .before .before)
 
 slice-aggregate-vet : tie.Need-slice-aggregate-vet
 slice-aggregate-vet c = part-length (c .before .before .before .before)
-
-vet-requires : tie.Need-vet-requires
-vet-requires c κs = search needs
 
 returns-2 : tie.Need-returns-2
 returns-2 c =
@@ -140,15 +122,15 @@ vet-record-spec =
     tie.close
     (tie.spec
     returns
-    empty-table-requires
-    slice-aggregate-read-record
-    read-record-requires
-    enum-known-refusal
-    enum-known-plan
+    (search needs)
+    (search needs)
+    (search needs)
+    (search needs)
+    (search needs)
     mul-n
     mul-n-2
     array-share-prefix-table
     slice-aggregate-vet
-    vet-requires
+    (search needs)
     returns-2
     returns-3)

@@ -4,9 +4,6 @@ use mathlib.Core.Path.{sym, _∙_}
 use Rattle.arithmetic.proofs.checked.check_symbols.Statement.{statement}
 use Rattle.arithmetic.proofs.checked.check_symbols.Tie as tie
 
-is-prime-requires : tie.Need-is-prime-requires
-is-prime-requires c κs = search needs
-
 returns : tie.Need-returns
 returns c = simp (sym (c .before .is-prime .ensures) ∙ not-true _ (c .if1 .taken))
 
@@ -20,4 +17,4 @@ returns-4 : tie.Need-returns-4
 returns-4 c = simp (sym (c .before .before .before .is-prime .ensures) ∙ not-false _ (c .before .before .if1 .left), lt-ltb _ _ (c .before .if2 .left), lt-ltb _ _ (c .if3 .left))
 
 pub check-symbols-spec : {M : Type 1} → statement M
-check-symbols-spec = tie.close (tie.spec is-prime-requires returns returns-2 returns-3 returns-4)
+check-symbols-spec = tie.close (tie.spec (search needs) returns returns-2 returns-3 returns-4)

@@ -19,12 +19,6 @@ use Rattle.keys.proofs.KeyLaws.{blockChecks, blocks-decide}
 use Rattle.keys.proofs.derive.check_keys.Statement.{statement}
 use Rattle.keys.proofs.derive.check_keys.Tie as tie
 
-vet-requires : tie.Need-vet-requires
-vet-requires c κs = search needs
-
-is-accepted-requires : tie.Need-is-accepted-requires
-is-accepted-requires c κs = search needs
-
 returns : tie.Need-returns
 returns c =
     let a = c .before .before .before .before .before .before .args in
@@ -89,9 +83,6 @@ returns-3 c =
     decide (c .before .before .before .before)
     (⊎-elim (λ w. simp (fits (c .before .before), ne-eqb _ _ (w .taken))) (λ w. simp (fits (c .before .before), eq-eqb _ _ (w .0 .left), not-true (wholeKeys s) (w .2 .taken))) (c .if4 .came))
 
-all-below-requires : tie.Need-all-below-requires
-all-below-requires c κs = search needs
-
 returns-4 : tie.Need-returns-4
 unfolding blocks
 returns-4 c =
@@ -108,14 +99,14 @@ pub check-keys-spec : {M : Type 1} → statement M
 check-keys-spec =
     tie.close
     (tie.spec
-    vet-requires
-    is-accepted-requires
+    (search needs)
+    (search needs)
     returns
     returns-2
     mul-if4
     mul-if5
     mul-if5-2
     returns-3
-    all-below-requires
+    (search needs)
     returns-4
     returns-5)

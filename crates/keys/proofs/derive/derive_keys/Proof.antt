@@ -9,12 +9,6 @@ use Rattle.keys.proofs.KeyLaws.{derivable}
 use Rattle.keys.proofs.derive.derive_keys.Statement.{statement}
 use Rattle.keys.proofs.derive.derive_keys.Tie as tie
 
-check-keys-requires : tie.Need-check-keys-requires
-check-keys-requires c κs = search needs
-
-is-accepted-requires : tie.Need-is-accepted-requires
-is-accepted-requires c κs = search needs
-
 -- the code of the call
 abbrev code : tie.Start → Code
 code s = keyCode (s .args .plan) (s .args .table .now) (s .args .length) (s .args .source .now) (s .args .keys .now)
@@ -28,18 +22,12 @@ write-keys-requires c κs =
     let d = derivable (a .plan) (a .table .now) (a .length) (a .source .now) (a .keys .now) (told (c .before)) in
     (prime-pos (d .plan .prime), d .plan .bounds .counts .few-users, d .plan .size, d .source, d .room)
 
-same-length : tie.Need-same-length
-same-length c = search needs
-
 returns : tie.Need-returns
 returns c =
     let s = c .before .before .before .before .before .before .before .before .before .before .before in
     let t = c .before .before .before .before in
     let checked = t .before .before .check-keys in
     (checked .ensures, c .before .before .write-keys .ensures ∙ takes (checked .result) (checked .ensures) (t .before .is-accepted .ensures) _ (s .args .keys .now) (t .if1 .taken))
-
-same-length-2 : tie.Need-same-length-2
-same-length-2 c = search needs
 
 returns-2 : tie.Need-returns-2
 returns-2 c =
@@ -51,10 +39,10 @@ pub derive-keys-spec : {M : Type 1} → statement M
 derive-keys-spec =
     tie.close
     (tie.spec
-    check-keys-requires
-    is-accepted-requires
+    (search needs)
+    (search needs)
     write-keys-requires
-    same-length
+    (search needs)
     returns
-    same-length-2
+    (search needs)
     returns-2)

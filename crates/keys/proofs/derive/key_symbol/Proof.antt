@@ -19,27 +19,6 @@ abbrev μ-loop : tie.MeasureT-loop
 loop-holds : tie.Need-loop-holds Inv-loop μ-loop
 loop-holds c = (omega arith, kept-none _ _)
 
-mul-mul-add-mod : tie.Need-mul-mul-add-mod Inv-loop μ-loop
-mul-mul-add-mod c = search needs
-
-shared-slice-read-mul-add-mod : tie.Need-shared-slice-read-mul-add-mod Inv-loop μ-loop
-shared-slice-read-mul-add-mod c = search needs
-
-mul-mul-add-mod-2 : tie.Need-mul-mul-add-mod-2 Inv-loop μ-loop
-mul-mul-add-mod-2 c = search needs
-
-shared-slice-read-mul-add-mod-2 : tie.Need-shared-slice-read-mul-add-mod-2 Inv-loop μ-loop
-shared-slice-read-mul-add-mod-2 c = search needs
-
-mul-add-mod-requires : tie.Need-mul-add-mod-requires Inv-loop μ-loop
-mul-add-mod-requires c κs = search needs
-
-add-k : tie.Need-add-k Inv-loop μ-loop
-add-k c = search needs
-
-loop-less : tie.Need-loop-less Inv-loop μ-loop
-loop-less c = search needs
-
 loop-again : tie.Need-loop-again Inv-loop μ-loop
 loop-again c =
     let s = c .before .before .before .before .loop in
@@ -61,12 +40,12 @@ key-symbol-spec =
     Inv-loop
     μ-loop
     loop-holds
-    mul-mul-add-mod
-    shared-slice-read-mul-add-mod
-    mul-mul-add-mod-2
-    shared-slice-read-mul-add-mod-2
-    mul-add-mod-requires
-    add-k
-    loop-less
+    (search needs)
+    (search needs)
+    (search needs)
+    (search needs)
+    (search needs)
+    (search needs)
+    (search needs)
     loop-again
     returns)

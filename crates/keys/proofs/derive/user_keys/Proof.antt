@@ -59,15 +59,6 @@ key-symbol-requires c κs =
     let b : ℕ = s .p * length (a .row .now) in
     (c .before .before .before .before .before .before .pre .0, sym (length-part (b + length (a .row .now) - b) b (a .source .now) (omega (arith, fits (c .before))) ∙ omega arith))
 
-mul-keys : tie.Need-mul-keys Inv-loop μ-loop
-mul-keys c = search needs
-
-slice-write-keys : tie.Need-slice-write-keys Inv-loop μ-loop
-slice-write-keys c = search needs
-
-add-p : tie.Need-add-p Inv-loop μ-loop
-add-p c = search needs
-
 loop-less : tie.Need-loop-less Inv-loop μ-loop
 loop-less c =
     let s = c .before .before .before .loop in
@@ -105,9 +96,9 @@ user-keys-spec =
     part-key-symbol-start
     part-key-symbol-end
     key-symbol-requires
-    mul-keys
-    slice-write-keys
-    add-p
+    (search needs)
+    (search needs)
+    (search needs)
     loop-less
     loop-again
     same-length

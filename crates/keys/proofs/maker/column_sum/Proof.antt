@@ -45,9 +45,6 @@ mul-add-mod-2 c = omega (arith, inside c, c .before .before .before .pre .1)
 shared-slice-read-add-mod : tie.Need-shared-slice-read-add-mod Inv-loop μ-loop
 shared-slice-read-add-mod c = omega (arith, inside (c .before), c .before .before .before .before .pre .1)
 
-add-mod-requires : tie.Need-add-mod-requires Inv-loop μ-loop
-add-mod-requires c κs = search needs
-
 add-i : tie.Need-add-i Inv-loop μ-loop
 add-i c = omega (arith, few (c .before .before))
 
@@ -81,7 +78,7 @@ column-sum-spec =
     add-add-mod
     mul-add-mod-2
     shared-slice-read-add-mod
-    add-mod-requires
+    (search needs)
     add-i
     loop-less
     loop-again

@@ -29,9 +29,6 @@ column-sum-requires c κs =
     let S = c .before .before .before .before in
     (S .pre .0, c .before .loop-test .taken, omega (arith, c .before .before .loop .inv .1 .whole, S .pre .1))
 
-opposite-mod-requires : tie.Need-opposite-mod-requires Inv-loop μ-loop
-opposite-mod-requires c κs = search needs
-
 add-table : tie.Need-add-table Inv-loop μ-loop
 add-table c = omega (arith, c .before .before .before .loop-test .taken, c .before .before .before .before .loop .inv .1 .whole, c .before .before .before .before .before .before .pre .1)
 
@@ -80,7 +77,7 @@ fill-last-spec =
     mul-start
     loop-holds
     column-sum-requires
-    opposite-mod-requires
+    (search needs)
     add-table
     mul-table
     slice-write-table

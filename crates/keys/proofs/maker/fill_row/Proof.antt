@@ -20,21 +20,6 @@ abbrev μ-loop : tie.MeasureT-loop
 loop-holds : tie.Need-loop-holds Inv-loop μ-loop
 loop-holds c = front-none _ _ 0 refl (length-tab _ _)
 
-cast-power-mod : tie.Need-cast-power-mod Inv-loop μ-loop
-cast-power-mod c = search needs
-
-power-mod-requires : tie.Need-power-mod-requires Inv-loop μ-loop
-power-mod-requires c κs = search needs
-
-mul-row : tie.Need-mul-row Inv-loop μ-loop
-mul-row c = search needs
-
-slice-write-row : tie.Need-slice-write-row Inv-loop μ-loop
-slice-write-row c = search needs
-
-add-k : tie.Need-add-k Inv-loop μ-loop
-add-k c = search needs
-
 loop-less : tie.Need-loop-less Inv-loop μ-loop
 loop-less c =
     let s = c .before .before .loop in
@@ -61,11 +46,11 @@ fill-row-spec =
     Inv-loop
     μ-loop
     loop-holds
-    cast-power-mod
-    power-mod-requires
-    mul-row
-    slice-write-row
-    add-k
+    (search needs)
+    (search needs)
+    (search needs)
+    (search needs)
+    (search needs)
     loop-less
     loop-again
     same-length

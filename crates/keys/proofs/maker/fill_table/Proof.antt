@@ -60,9 +60,6 @@ fill-last-requires c κs =
     let size : length y ≡ m = powers-size (a .plan .q) (a .generator) (usersOf (a .plan)) (a .plan .rate) y [] (some-users (known s .counts)) (known s .some-symbols) (c .before .before .before .fill-rows .ensures) in
     (prime-pos (prime s), length-front (a .table .now) y m (size ∙ sym (length-take-le m (a .table .now) (omega (arith, others s)))) ∙ omega (arith, others s))
 
-same-length : tie.Need-same-length
-same-length c = search needs
-
 returns : tie.Need-returns
 returns c =
     let s = c .before .before .before .before .before .before .before .before .before .before in
@@ -82,5 +79,5 @@ fill-table-spec =
     slice-aggregate-fill-rows
     fill-rows-requires
     fill-last-requires
-    same-length
+    (search needs)
     returns)

@@ -20,12 +20,6 @@ use Rattle.keys.proofs.MakerLaws.{made-bounds, ownChecks}
 use Rattle.keys.proofs.maker.make_table.Statement.{statement}
 use Rattle.keys.proofs.maker.make_table.Tie as tie
 
-plan-for-requires : tie.Need-plan-for-requires
-plan-for-requires c κs = search needs
-
-enum-known-planned : tie.Need-enum-known-planned
-enum-known-planned c = search needs
-
 -- the checks before the vet's, those of the walk, and the code of the call
 abbrev own : tie.Start → List (Bool × Code)
 own s = ownChecks (s .args .clusters) (s .args .size) (s .args .limit) (s .args .q) (s .args .generator) (s .args .table .now)
@@ -82,12 +76,6 @@ left c =
     ∙ ap (λ (P : Plan). ifAccepted (verdictCode (c .write-table .result)) (madeTable (P .clusters) (P .size) (P .limit) (P .q) (s .args .generator)) (s .args .table .now)) (plan-is p)
     ∙ ap (λ (d : Code). ifAccepted d (made s) (s .args .table .now)) (found c)
 
-enum-known-refusal : tie.Need-enum-known-refusal
-enum-known-refusal c = search needs
-
-same-length : tie.Need-same-length
-same-length c = search needs
-
 returns : tie.Need-returns
 returns c =
     let w = c .before .before .before .before .before in
@@ -96,24 +84,12 @@ returns c =
     let e : codeOf r ≡ code s = sym (ap verdictCode (c .before .refusal .given .1)) ∙ found w in
     (e, sym (refused-keeps (code s) (planned s) noPlan r e), left w)
 
-enum-told : tie.Need-enum-told
-enum-told c = search needs
-
-enum-told-2 : tie.Need-enum-told-2
-enum-told-2 c = search needs
-
-same-length-2 : tie.Need-same-length-2
-same-length-2 c = search needs
-
 returns-2 : tie.Need-returns-2
 returns-2 c =
     let w = c .before .before .before .before in
     let s = w .before .before .before .before .before .before .before .before in
     let e : accepted ≡ code s = sym (ap verdictCode (c .enum-told .given .1)) ∙ found w in
     (e, plan-is (w .before .before .before) ∙ sym (accepted-takes (code s) (planned s) noPlan e), left w)
-
-same-length-3 : tie.Need-same-length-3
-same-length-3 c = search needs
 
 -- a refusal of the checks
 returns-3 : tie.Need-returns-3
@@ -131,15 +107,15 @@ pub make-table-spec : {M : Type 1} → statement M
 make-table-spec =
     tie.close
     (tie.spec
-    plan-for-requires
-    enum-known-planned
+    (search needs)
+    (search needs)
     write-table-requires
-    enum-known-refusal
-    same-length
+    (search needs)
+    (search needs)
     returns
-    enum-told
-    enum-told-2
-    same-length-2
+    (search needs)
+    (search needs)
+    (search needs)
     returns-2
-    same-length-3
+    (search needs)
     returns-3)

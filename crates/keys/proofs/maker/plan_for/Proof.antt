@@ -14,9 +14,6 @@ use Rattle.keys.proofs.MakerLaws.{made-bounds}
 use Rattle.keys.proofs.maker.plan_for.Statement.{statement}
 use Rattle.keys.proofs.maker.plan_for.Tie as tie
 
-counts-fit-requires : tie.Need-counts-fit-requires
-counts-fit-requires c κs = search needs
-
 returns : tie.Need-returns
 returns c = (simp (sym (c .before .counts-fit .ensures) ∙ not-true _ (c .if1 .taken)), refl)
 
@@ -26,9 +23,6 @@ counts c = sym (c .before .counts-fit .ensures) ∙ not-false _ (c .if1 .left)
 
 known : (c : tie.Else1) → (let a = c .before .before .before .args in Counts (a .clusters) (a .size) (a .limit))
 known c = let a = c .before .before .before .args in counts-known (a .clusters) (a .size) (a .limit) (counts c)
-
-is-prime-requires : tie.Need-is-prime-requires
-is-prime-requires c κs = search needs
 
 returns-2 : tie.Need-returns-2
 returns-2 c = (simp (counts (c .before .before), sym (c .before .is-prime .ensures) ∙ not-true _ (c .if2 .taken)), refl)
@@ -86,9 +80,9 @@ pub plan-for-spec : {M : Type 1} → statement M
 plan-for-spec =
     tie.close
     (tie.spec
-    counts-fit-requires
+    (search needs)
     returns
-    is-prime-requires
+    (search needs)
     returns-2
     returns-3
     sub-if4

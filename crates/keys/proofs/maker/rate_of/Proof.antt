@@ -7,20 +7,11 @@ use native.Mathlib.Omega.{arith}
 use Rattle.keys.proofs.maker.rate_of.Statement.{statement}
 use Rattle.keys.proofs.maker.rate_of.Tie as tie
 
-add-relay : tie.Need-add-relay
-add-relay c = search needs
-
 mul-others : tie.Need-mul-others
 mul-others c = omega (arith, mul-le-mul {n₁ = c .args .clusters} {m₁ = c .args .size} {n₂ = 8} {m₂ = 8} (c .pre .1) (c .pre .3))
 
 sub-others : tie.Need-sub-others
 sub-others c = mul-le-mul {n₁ = 1} {m₁ = 1} {n₂ = c .args .clusters} {m₂ = c .args .size} (c .pre .0) (c .pre .2)
-
-add-server : tie.Need-add-server
-add-server c = search needs
-
-sub-server : tie.Need-sub-server
-sub-server c = search needs
 
 -- the smaller of what the server asks and the users but one
 smaller : (c : tie.Joined1) → (let a = c .before .args in c .if1 .server ≡ min (a .clusters + a .limit - 1) (a .clusters * a .size - 1))
@@ -35,4 +26,4 @@ returns-2 c = omega (arith, smaller (c .before), c .if2 .left)
 pub rate-of-spec : {M : Type 1} → statement M
 rate-of-spec =
     tie.close
-    (tie.spec add-relay mul-others sub-others add-server sub-server returns returns-2)
+    (tie.spec (search needs) mul-others sub-others (search needs) (search needs) returns returns-2)

@@ -6,14 +6,8 @@ use Rattle.keys.proofs.maker.row_base.Tie as tie
 returns : tie.Need-returns
 returns c = simp (eq-eqb _ _ (c .if1 .taken))
 
-cast-power-mod : tie.Need-cast-power-mod
-cast-power-mod c = search needs
-
-power-mod-requires : tie.Need-power-mod-requires
-power-mod-requires c κs = search needs
-
 returns-2 : tie.Need-returns-2
 returns-2 c = simp (ne-eqb _ _ (c .before .if1 .left)) (c .power-mod .ensures)
 
 pub row-base-spec : {M : Type 1} → statement M
-row-base-spec = tie.close (tie.spec returns cast-power-mod power-mod-requires returns-2)
+row-base-spec = tie.close (tie.spec returns (search needs) (search needs) returns-2)

@@ -22,12 +22,6 @@ write-vetted-requires c κs =
     let s = c .before .before .before in
     (s .pre .0, s .pre .1, s .pre .2, length-take-le (length (s .args .table .now)) _ (room s) ∙ s .pre .3, s .pre .3)
 
-same-length : tie.Need-same-length
-same-length c = search needs
-
-returns : tie.Need-returns
-returns c = search needs
-
 pub write-table-spec : {M : Type 1} → statement M
 write-table-spec =
     tie.close
@@ -35,5 +29,5 @@ write-table-spec =
     array-borrow-prefix-built
     slice-aggregate-write-vetted
     write-vetted-requires
-    same-length
-    returns)
+    (search needs)
+    (λ c. search needs))

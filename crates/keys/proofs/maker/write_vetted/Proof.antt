@@ -22,21 +22,6 @@ use Rattle.keys.proofs.maker.write_vetted.Tie as tie
 copied-whole : (from to after : List ℕ) → after ≡ cond (eqb (length from) (length to)) from to → length from ≡ length to → after ≡ from
 copied-whole from to after e h = e ∙ ap (λ (t : Bool). cond t from to) (eq-eqb (length from) (length to) h)
 
-fill-table-requires : tie.Need-fill-table-requires
-fill-table-requires c κs = search needs
-
-vet-requires : tie.Need-vet-requires
-vet-requires c κs = search needs
-
-is-accepted-requires : tie.Need-is-accepted-requires
-is-accepted-requires c κs = search needs
-
-copy-requires : tie.Need-copy-requires
-copy-requires c κs = search needs
-
-same-length : tie.Need-same-length
-same-length c = search needs
-
 -- the table of the plan
 abbrev made : tie.Start → List ℕ
 made s = let P = s .args .plan in madeTable (P .clusters) (P .size) (P .limit) (P .q) (s .args .generator)
@@ -53,9 +38,6 @@ found c =
     ∙ ap (verdict P) (c .before .before .before .before .fill-table .ensures)
     ∙ made-verdict P (s .args .generator) (bounds-known P (s .pre .0)) (true-prime (P .q) (s .pre .1)) (s .pre .2) (s .pre .0)
 
-same-length-2 : tie.Need-same-length-2
-same-length-2 c = search needs
-
 returns : tie.Need-returns
 returns c =
     let v = c .before .before .before .before .before .before .before in
@@ -65,9 +47,6 @@ returns c =
     let copied = copied-whole built lent _ (c .before .before .copy .ensures) (search needs) in
     let accepts = sym (c .before .before .before .before .before .before .is-accepted .ensures) ∙ c .before .before .before .before .before .if1 .taken in
     (found v, copied ∙ v .before .before .before .before .fill-table .ensures ∙ sym (new-taken (verdictCode (v .vet .result)) (made s) lent accepts))
-
-same-length-3 : tie.Need-same-length-3
-same-length-3 c = search needs
 
 returns-2 : tie.Need-returns-2
 returns-2 c =
@@ -79,12 +58,12 @@ pub write-vetted-spec : {M : Type 1} → statement M
 write-vetted-spec =
     tie.close
     (tie.spec
-    fill-table-requires
-    vet-requires
-    is-accepted-requires
-    copy-requires
-    same-length
-    same-length-2
+    (λ c κs. search needs)
+    (search needs)
+    (search needs)
+    (search needs)
+    (search needs)
+    (search needs)
     returns
-    same-length-3
+    (search needs)
     returns-2)

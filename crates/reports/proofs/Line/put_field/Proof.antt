@@ -9,9 +9,6 @@ use Rattle.reports.proofs.LineLaws.{typed-length, typed-append, digits-
 use Rattle.reports.proofs.Line.put_field.Statement.{statement}
 use Rattle.reports.proofs.Line.put_field.Tie as tie
 
-put-decimal-requires : tie.Need-put-decimal-requires
-put-decimal-requires c κs = search needs
-
 put-requires : tie.Need-put-requires
 put-requires c κs =
     let a = c .before .args in
@@ -25,4 +22,4 @@ returns c =
     ∙ sym (typed-append (a .self) (decimal (a .n)) (a .end ∷ []))
 
 pub put-field-spec : {M : Type 1} → statement M
-put-field-spec = tie.close (tie.spec put-decimal-requires put-requires returns)
+put-field-spec = tie.close (tie.spec (search needs) put-requires returns)

@@ -7,9 +7,6 @@ use Rattle.rounds.specs.Rounds.{stepCode, stepped, relayRound}
 use Rattle.rounds.proofs.RelayRound.count.Statement.{statement}
 use Rattle.rounds.proofs.RelayRound.count.Tie as tie
 
-is-known-requires : tie.Need-is-known-requires
-is-known-requires c κs = search needs
-
 count-requires : tie.Need-count-requires
 count-requires c κs =
     let R = c .before .before .before .args .self .round in
@@ -26,4 +23,4 @@ returns c =
     )
 
 pub count-spec : {M : Type 1} → statement M
-count-spec = tie.close (tie.spec is-known-requires count-requires returns)
+count-spec = tie.close (tie.spec (search needs) count-requires returns)

@@ -10,16 +10,10 @@ use Rattle.rounds.specs.Rounds.{giveChecks}
 use Rattle.rounds.proofs.RelayRound.give.Statement.{statement}
 use Rattle.rounds.proofs.RelayRound.give.Tie as tie
 
-is-known-requires : tie.Need-is-known-requires
-is-known-requires c κs = search needs
-
 give-requires : tie.Need-give-requires
 give-requires c κs =
     let R = c .before .before .before .before .args .self .round in
     λ fit. counts-known (R .clusters) (R .size) 0 fit .few-size
-
-same-length : tie.Need-same-length
-same-length c = search needs
 
 returns : tie.Need-returns
 returns c =
@@ -34,4 +28,4 @@ returns c =
     )
 
 pub give-spec : {M : Type 1} → statement M
-give-spec = tie.close (tie.spec is-known-requires give-requires same-length returns)
+give-spec = tie.close (tie.spec (search needs) give-requires (search needs) returns)

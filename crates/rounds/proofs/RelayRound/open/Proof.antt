@@ -10,15 +10,6 @@ use Rattle.refusals.proofs.Answers.{passes, refuses}
 use Rattle.rounds.proofs.RelayRound.open.Statement.{statement}
 use Rattle.rounds.proofs.RelayRound.open.Tie as tie
 
-one-of-requires : tie.Need-one-of-requires
-one-of-requires c κs = search needs
-
-open-requires : tie.Need-open-requires
-open-requires c κs = search needs
-
-is-accepted-requires : tie.Need-is-accepted-requires
-is-accepted-requires c κs = search needs
-
 -- the code of the call, and the round that it opens
 abbrev code : tie.Start → Code
 code s = openCode (s .args .clusters) (s .args .size) (s .args .q) (s .args .length) (oneOf (s .args .clusters) (s .args .cluster))
@@ -59,4 +50,4 @@ returns-2 c =
 
 pub open-spec : {M : Type 1} → statement M
 open-spec =
-    tie.close (tie.spec one-of-requires open-requires is-accepted-requires returns returns-2)
+    tie.close (tie.spec (search needs) (search needs) (search needs) returns returns-2)

@@ -27,18 +27,6 @@ loop-holds c =
     let l : length (r .sums) ≡ 64 = search needs in
     (omega arith, l, ap (withSums r) (added-none (r .q) (r .sums) (c .before .args .block .now) l))
 
-mul-add-reduced : tie.Need-mul-add-reduced Inv-loop μ-loop
-mul-add-reduced c = search needs
-
-element-copy-out-add-reduced : tie.Need-element-copy-out-add-reduced Inv-loop μ-loop
-element-copy-out-add-reduced c = search needs
-
-mul-add-reduced-2 : tie.Need-mul-add-reduced-2 Inv-loop μ-loop
-mul-add-reduced-2 c = search needs
-
-shared-slice-read-add-reduced : tie.Need-shared-slice-read-add-reduced Inv-loop μ-loop
-shared-slice-read-add-reduced c = search needs
-
 add-reduced-requires : tie.Need-add-reduced-requires Inv-loop μ-loop
 add-reduced-requires c κs =
     let s = c .before .before .before .loop in
@@ -54,18 +42,6 @@ add-reduced-requires c κs =
       omega (arith, m, k, below-at (r .q) (take (length bl) (r .sums)) (a .pre .positive) (true→T _ (a .pre .low)) (s .p)),
       omega (arith, k, below-at (r .q) bl (a .pre .positive) (true→T _ (a .pre .below)) (s .p)),
     )
-
-mul-self : tie.Need-mul-self Inv-loop μ-loop
-mul-self c = search needs
-
-element-write-self : tie.Need-element-write-self Inv-loop μ-loop
-element-write-self c = search needs
-
-add-p : tie.Need-add-p Inv-loop μ-loop
-add-p c = search needs
-
-loop-less : tie.Need-loop-less Inv-loop μ-loop
-loop-less c = search needs
 
 loop-again : tie.Need-loop-again Inv-loop μ-loop
 loop-again c =
@@ -100,14 +76,14 @@ add-block-spec =
     Inv-loop
     μ-loop
     loop-holds
-    mul-add-reduced
-    element-copy-out-add-reduced
-    mul-add-reduced-2
-    shared-slice-read-add-reduced
+    (search needs)
+    (search needs)
+    (search needs)
+    (search needs)
     add-reduced-requires
-    mul-self
-    element-write-self
-    add-p
-    loop-less
+    (search needs)
+    (search needs)
+    (search needs)
+    (search needs)
     loop-again
     returns)

@@ -12,15 +12,6 @@ use Rattle.rounds.proofs.ReportedLaws.{bits-above, bits-below}
 use Rattle.rounds.proofs.Round.check_contents.Statement.{statement}
 use Rattle.rounds.proofs.Round.check_contents.Tie as tie
 
-cast-if1 : tie.Need-cast-if1
-cast-if1 c = search needs
-
-cast-if1-2 : tie.Need-cast-if1-2
-cast-if1-2 c = search needs
-
-shr-if1 : tie.Need-shr-if1
-shr-if1 c = search needs
-
 sixty-four : (c : tie.Start) → length (c .args .self .sums) ≡ 64
 sixty-four c = search needs
 
@@ -35,29 +26,14 @@ slice-aggregate-all-below c =
     let a = c .before .before .before .before .args in
     sym (length-take-le (a .self .length) (a .self .sums) (omega (arith, sixty-four (c .before .before .before .before), c .before .before .before .before .pre .1)))
 
-all-below-requires : tie.Need-all-below-requires
-all-below-requires c κs = search needs
-
 -- the sums past the length, as the part of the array that the code tests
 past : (c : tie.Start) → take (64 - c .args .self .length) (drop (c .args .self .length) (c .args .self .sums)) ≡ drop (c .args .self .length) (c .args .self .sums)
 past c =
     let R = c .args .self in
     take-all (64 - R .length) (drop (R .length) (R .sums)) (omega (arith, length-drop (R .length) (R .sums), sixty-four c))
 
-mul-all-below : tie.Need-mul-all-below
-mul-all-below c = search needs
-
-sub-all-below : tie.Need-sub-all-below
-sub-all-below c = search needs
-
-part-all-below-start : tie.Need-part-all-below-start
-part-all-below-start c = search needs
-
 part-all-below-end : tie.Need-part-all-below-end
 part-all-below-end c = let l : length (c .before .before .before .before .before .before .before .args .self .sums) ≡ 64 = sixty-four (c .before .before .before .before .before .before .before) in omega arith
-
-all-below-requires-2 : tie.Need-all-below-requires-2
-all-below-requires-2 c κs = search needs
 
 below-is : (c : tie.Start) {r : Bool} → (let R = c .args .self in r ≡ allBelow 1 (take (64 - R .length) (drop (R .length) (R .sums))) → allBelow 1 (drop (R .length) (R .sums)) ≡ r)
 below-is c e = sym (e ∙ ap (allBelow 1) (past c))
@@ -81,17 +57,17 @@ pub check-contents-spec : {M : Type 1} → statement M
 check-contents-spec =
     tie.close
     (tie.spec
-    cast-if1
-    cast-if1-2
-    shr-if1
+    (search needs)
+    (search needs)
+    (search needs)
     returns
     array-share-prefix-sums
     slice-aggregate-all-below
-    all-below-requires
-    mul-all-below
-    sub-all-below
-    part-all-below-start
+    (search needs)
+    (search needs)
+    (search needs)
+    (search needs)
     part-all-below-end
-    all-below-requires-2
+    (search needs)
     returns-2
     returns-3)

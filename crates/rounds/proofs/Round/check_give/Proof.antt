@@ -12,9 +12,6 @@ use Rattle.rounds.proofs.Round.check_give.Tie as tie
 check-state-requires : tie.Need-check-state-requires
 check-state-requires c κs = c .before .pre
 
-is-accepted-requires : tie.Need-is-accepted-requires
-is-accepted-requires c κs = search needs
-
 returns : tie.Need-returns
 returns c =
     let a = c .before .before .before .before .args in
@@ -38,4 +35,4 @@ returns-2 c =
 pub check-give-spec : {M : Type 1} → statement M
 check-give-spec =
     tie.close
-    (tie.spec check-state-requires is-accepted-requires returns check-lent-requires returns-2)
+    (tie.spec check-state-requires (search needs) returns check-lent-requires returns-2)

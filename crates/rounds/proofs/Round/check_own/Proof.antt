@@ -15,9 +15,6 @@ use Rattle.rounds.specs.Machine.{ownChecks}
 use Rattle.rounds.proofs.Round.check_own.Statement.{statement}
 use Rattle.rounds.proofs.Round.check_own.Tie as tie
 
-one-of-requires : tie.Need-one-of-requires
-one-of-requires c κs = search needs
-
 -- the code of the checks from number n on
 abbrev code : ℕ → tie.Start → Code
 code n s = firstOf (drop n (ownChecks (s .args .senders) (s .args .self) (frame (s .args .sender) (s .args .number) (s .args .block .now))))
@@ -44,9 +41,6 @@ past-number c = past-symbols (c .before .before) ∙ simp (eq-eqb _ _ (c .if4 .l
 returns-2 : tie.Need-returns-2
 returns-2 c = sym (past-sender (c .before .before) ∙ simp (ne-eqb _ _ (c .if2 .taken)))
 
-all-below-requires : tie.Need-all-below-requires
-all-below-requires c κs = search needs
-
 returns-3 : tie.Need-returns-3
 returns-3 c = sym (past-length (c .before .before) ∙ simp (sym (c .before .all-below .ensures) ∙ not-true _ (c .if3 .taken)))
 
@@ -72,10 +66,10 @@ pub check-own-spec : {M : Type 1} → statement M
 check-own-spec =
     tie.close
     (tie.spec
-    one-of-requires
+    (search needs)
     returns
     returns-2
-    all-below-requires
+    (search needs)
     returns-3
     returns-4
     has-reported-requires

@@ -11,12 +11,6 @@ use Rattle.rounds.proofs.CheckLaws.{state-parts, opening-known}
 use Rattle.rounds.proofs.Round.check_state.Statement.{statement}
 use Rattle.rounds.proofs.Round.check_state.Tie as tie
 
-check-opening-requires : tie.Need-check-opening-requires
-check-opening-requires c κs = search needs
-
-is-accepted-requires : tie.Need-is-accepted-requires
-is-accepted-requires c κs = search needs
-
 -- the tests of an opening
 abbrev opening : tie.Start → List (Bool × Code)
 opening s = let R = s .args .self in openChecks (R .clusters) (R .size) (R .q) (R .length) (s .args .known)
@@ -48,8 +42,8 @@ pub check-state-spec : {M : Type 1} → statement M
 check-state-spec =
     tie.close
     (tie.spec
-    check-opening-requires
-    is-accepted-requires
+    (search needs)
+    (search needs)
     returns
     check-contents-requires
     returns-2)

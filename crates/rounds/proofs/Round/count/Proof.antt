@@ -16,9 +16,6 @@ use Rattle.rounds.proofs.Round.count.Tie as tie
 check-frame-requires : tie.Need-check-frame-requires
 check-frame-requires c κs = c .before .pre
 
-is-accepted-requires : tie.Need-is-accepted-requires
-is-accepted-requires c κs = search needs
-
 -- the frame, and the code of the call
 abbrev theFrame : tie.Start → Frame
 theFrame s = frame (s .args .sender) (s .args .number) (s .args .block .now)
@@ -61,4 +58,4 @@ returns-2 c =
 pub count-spec : {M : Type 1} → statement M
 count-spec =
     tie.close
-    (tie.spec check-frame-requires is-accepted-requires returns counted-requires returns-2)
+    (tie.spec check-frame-requires (search needs) returns counted-requires returns-2)

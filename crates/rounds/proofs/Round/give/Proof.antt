@@ -14,9 +14,6 @@ use Rattle.rounds.proofs.Round.give.Tie as tie
 check-give-requires : tie.Need-check-give-requires
 check-give-requires c κs = c .before .before .pre
 
-is-accepted-requires : tie.Need-is-accepted-requires
-is-accepted-requires c κs = search needs
-
 -- the code of the call
 abbrev code : tie.Start → Code
 code s = giveCode (s .args .senders) (s .args .known) (s .args .self) (s .args .out .now)
@@ -32,18 +29,12 @@ passed c =
 write-sums-requires : tie.Need-write-sums-requires
 write-sums-requires c κs = omega (arith, passed (c .before) .room, passed (c .before) .good .opening .few-length)
 
-same-length : tie.Need-same-length
-same-length c = search needs
-
 returns : tie.Need-returns
 returns c =
     let t : tie.Then1 = c .before .before .before .before in
     let s = t .before .before .before .before .before in
     let R = s .args .self in
     (t .before .before .check-give .ensures, c .before .before .write-sums .ensures ∙ filled (code s) (R .length) (λ n. take n (R .sums)) (s .args .out .now) (passed t .room) (told t))
-
-same-length-2 : tie.Need-same-length-2
-same-length-2 c = search needs
 
 returns-2 : tie.Need-returns-2
 returns-2 c =
@@ -56,9 +47,9 @@ give-spec =
     tie.close
     (tie.spec
     check-give-requires
-    is-accepted-requires
+    (search needs)
     write-sums-requires
-    same-length
+    (search needs)
     returns
-    same-length-2
+    (search needs)
     returns-2)

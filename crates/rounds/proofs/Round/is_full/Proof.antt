@@ -3,15 +3,6 @@ use Rattle.rounds.proofs.ReportedLaws.{mask-some, full-mask}
 use Rattle.rounds.proofs.Round.is_full.Statement.{statement}
 use Rattle.rounds.proofs.Round.is_full.Tie as tie
 
-cast-result : tie.Need-cast-result
-cast-result c = search needs
-
-cast-result-2 : tie.Need-cast-result-2
-cast-result-2 c = search needs
-
-shl-result : tie.Need-shl-result
-shl-result c = search needs
-
 sub-result : tie.Need-sub-result
 sub-result c = mask-some (c .args .senders) (c .pre .0)
 
@@ -21,4 +12,4 @@ returns c =
     full-mask (s .args .self .reported) (s .args .senders) (s .pre .0) (s .pre .1)
 
 pub is-full-spec : {M : Type 1} → statement M
-is-full-spec = tie.close (tie.spec cast-result cast-result-2 shl-result sub-result returns)
+is-full-spec = tie.close (tie.spec (search needs) (search needs) (search needs) sub-result returns)

@@ -6,15 +6,6 @@ use Rattle.refusals.proofs.Answers.{takes, keeps}
 use Rattle.rounds.proofs.Round.open.Statement.{statement}
 use Rattle.rounds.proofs.Round.open.Tie as tie
 
-check-opening-requires : tie.Need-check-opening-requires
-check-opening-requires c κs = search needs
-
-is-accepted-requires : tie.Need-is-accepted-requires
-is-accepted-requires c κs = search needs
-
-empty-requires : tie.Need-empty-requires
-empty-requires c κs = search needs
-
 returns : tie.Need-returns
 returns c =
     let b = c .before .before in
@@ -22,9 +13,6 @@ returns c =
     let v = b .before .check-opening .result in
     let e = b .before .check-opening .ensures in
     (e, c .empty .ensures ∙ keeps v e (b .is-accepted .ensures) (opened (a .clusters) (a .size) (a .q) (a .length) (a .number)) noRound (not-true _ (c .before .if1 .taken)))
-
-empty-requires-2 : tie.Need-empty-requires-2
-empty-requires-2 c κs = search needs
 
 returns-2 : tie.Need-returns-2
 returns-2 c =
@@ -38,9 +26,9 @@ pub open-spec : {M : Type 1} → statement M
 open-spec =
     tie.close
     (tie.spec
-    check-opening-requires
-    is-accepted-requires
-    empty-requires
+    (search needs)
+    (search needs)
+    (search needs)
     returns
-    empty-requires-2
+    (search needs)
     returns-2)

@@ -9,13 +9,10 @@ give-requires c κs =
     let R = c .before .before .before .args .self .round in
     λ fit. counts-known (R .clusters) (R .size) 0 fit .few-clusters
 
-same-length : tie.Need-same-length
-same-length c = search needs
-
 returns : tie.Need-returns
 returns c =
     let e = c .before .before .give .ensures in
     (e .0, e .1, refl)
 
 pub give-spec : {M : Type 1} → statement M
-give-spec = tie.close (tie.spec give-requires same-length returns)
+give-spec = tie.close (tie.spec give-requires (search needs) returns)

@@ -6,12 +6,6 @@ use Rattle.arithmetic.specs.Field.{residue}
 use Rattle.rounds.proofs.blocks.add_reduced.Statement.{statement}
 use Rattle.rounds.proofs.blocks.add_reduced.Tie as tie
 
-sub-sub-reduced : tie.Need-sub-sub-reduced
-sub-sub-reduced c = search needs
-
-sub-reduced-requires : tie.Need-sub-reduced-requires
-sub-reduced-requires c κs = search needs
-
 returns : tie.Need-returns
 returns c =
     let s = c .before in
@@ -20,4 +14,4 @@ returns c =
     c .sub-reduced .ensures ∙ ap (λ (n : ℕ). residue (a .q) (a .a + n)) e
 
 pub add-reduced-spec : {M : Type 1} → statement M
-add-reduced-spec = tie.close (tie.spec sub-sub-reduced sub-reduced-requires returns)
+add-reduced-spec = tie.close (tie.spec (search needs) (search needs) returns)

@@ -10,14 +10,8 @@ use Rattle.rounds.specs.Blocks.{lengthFits}
 use Rattle.rounds.proofs.blocks.check_blocks.Statement.{statement}
 use Rattle.rounds.proofs.blocks.check_blocks.Tie as tie
 
-is-prime-requires : tie.Need-is-prime-requires
-is-prime-requires c κs = search needs
-
 returns : tie.Need-returns
 returns c = simp (sym (c .before .is-prime .ensures) ∙ not-true _ (c .if1 .taken))
-
-length-fits-requires : tie.Need-length-fits-requires
-length-fits-requires c κs = search needs
 
 -- the first two checks passed
 prime : (c : tie.Else1) → isPrime (c .before .before .before .before .before .args .q) ≡ true
@@ -53,12 +47,6 @@ sized c =
     let s = c .before .before .before .before .before .before .before .before .before .before in
     simp (eq-eqb _ _ (c .before .before .if3 .left), not-false (sizedB s) (c .before .if4 .left), not-false (sizedOut s) (c .if5 .left))
 
-all-below-requires : tie.Need-all-below-requires
-all-below-requires c κs = search needs
-
-all-below-requires-2 : tie.Need-all-below-requires-2
-all-below-requires-2 c κs = search needs
-
 returns-4 : tie.Need-returns-4
 returns-4 c =
     let p = prime (c .before .before .before .before .before .before .before) in
@@ -82,12 +70,12 @@ pub check-blocks-spec : {M : Type 1} → statement M
 check-blocks-spec =
     tie.close
     (tie.spec
-    is-prime-requires
+    (search needs)
     returns
-    length-fits-requires
+    (search needs)
     returns-2
     returns-3
-    all-below-requires
-    all-below-requires-2
+    (search needs)
+    (search needs)
     returns-4
     returns-5)

@@ -6,12 +6,6 @@ use Rattle.rounds.proofs.BlockLaws.{residue-small, residue-large}
 use Rattle.rounds.proofs.blocks.sub_reduced.Statement.{statement}
 use Rattle.rounds.proofs.blocks.sub_reduced.Tie as tie
 
-sub-result : tie.Need-sub-result
-sub-result c = search needs
-
-add-result : tie.Need-add-result
-add-result c = search needs
-
 returns : tie.Need-returns
 returns c =
     let s = c .before in
@@ -27,4 +21,4 @@ returns-2 c =
     e ∙ sym (residue-small (a .q) (a .a + (a .q - a .b)) (omega (arith, s .pre .1, c .if1 .left)))
 
 pub sub-reduced-spec : {M : Type 1} → statement M
-sub-reduced-spec = tie.close (tie.spec sub-result add-result returns returns-2)
+sub-reduced-spec = tie.close (tie.spec (search needs) (search needs) returns returns-2)

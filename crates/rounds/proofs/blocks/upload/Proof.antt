@@ -8,12 +8,6 @@ use Rattle.rounds.proofs.BlockLaws.{writable, written}
 use Rattle.rounds.proofs.blocks.upload.Statement.{statement}
 use Rattle.rounds.proofs.blocks.upload.Tie as tie
 
-check-blocks-requires : tie.Need-check-blocks-requires
-check-blocks-requires c κs = search needs
-
-is-accepted-requires : tie.Need-is-accepted-requires
-is-accepted-requires c κs = search needs
-
 -- the code of the call
 abbrev code : tie.Start → Code
 code s = blockCode (s .args .q) (s .args .length) (s .args .readings .now) (s .args .key .now) (s .args .out .now)
@@ -26,9 +20,6 @@ write-upload-requires c κs =
     let a = c .before .before .before .before .before .before .before .before .args in
     writable (a .q) (a .length) (a .readings .now) (a .key .now) (a .out .now) (told (c .before))
 
-same-length : tie.Need-same-length
-same-length c = search needs
-
 returns : tie.Need-returns
 returns c =
     let t : tie.Then1 = c .before .before .before .before in
@@ -37,9 +28,6 @@ returns c =
       c .before .before .write-upload .ensures
           ∙ written (a .q) (a .length) (a .readings .now) (a .key .now) (a .out .now) (λ n. uploadOf (a .q) n (a .readings .now) (a .key .now)) (told t),
     )
-
-same-length-2 : tie.Need-same-length-2
-same-length-2 c = search needs
 
 returns-2 : tie.Need-returns-2
 returns-2 c =
@@ -51,10 +39,10 @@ pub upload-spec : {M : Type 1} → statement M
 upload-spec =
     tie.close
     (tie.spec
-    check-blocks-requires
-    is-accepted-requires
+    (search needs)
+    (search needs)
     write-upload-requires
-    same-length
+    (search needs)
     returns
-    same-length-2
+    (search needs)
     returns-2)

@@ -23,18 +23,6 @@ abbrev μ-loop : tie.MeasureT-loop
 loop-holds : tie.Need-loop-holds Inv-loop μ-loop
 loop-holds c = front-none _ _ 0 refl (length-tab _ _)
 
-mul-a : tie.Need-mul-a Inv-loop μ-loop
-mul-a c = search needs
-
-shared-slice-read-a : tie.Need-shared-slice-read-a Inv-loop μ-loop
-shared-slice-read-a c = search needs
-
-mul-b : tie.Need-mul-b Inv-loop μ-loop
-mul-b c = search needs
-
-shared-slice-read-b : tie.Need-shared-slice-read-b Inv-loop μ-loop
-shared-slice-read-b c = search needs
-
 key-below : (s : tie.Start Inv-loop μ-loop) (p : ℕ) → at (s .args .key .now) p < s .args .q
 key-below s p = below-at (s .args .q) (s .args .key .now) (s .pre .0) (s .pre .4) p
 
@@ -44,15 +32,6 @@ sub-reduced-requires c κs =
     let start = c .before .before .before .before .before .before .before in
     let a = start .args in
     (below-at (a .q) (a .upload .now) (start .pre .0) (start .pre .3) (s .p), omega (arith, key-below start (s .p)))
-
-mul-out : tie.Need-mul-out Inv-loop μ-loop
-mul-out c = search needs
-
-slice-write-out : tie.Need-slice-write-out Inv-loop μ-loop
-slice-write-out c = search needs
-
-add-p : tie.Need-add-p Inv-loop μ-loop
-add-p c = search needs
 
 loop-less : tie.Need-loop-less Inv-loop μ-loop
 loop-less c =
@@ -82,14 +61,14 @@ write-unmasked-spec =
     Inv-loop
     μ-loop
     loop-holds
-    mul-a
-    shared-slice-read-a
-    mul-b
-    shared-slice-read-b
+    (search needs)
+    (search needs)
+    (search needs)
+    (search needs)
     sub-reduced-requires
-    mul-out
-    slice-write-out
-    add-p
+    (search needs)
+    (search needs)
+    (search needs)
     loop-less
     loop-again
     same-length

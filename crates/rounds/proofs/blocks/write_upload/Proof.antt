@@ -22,18 +22,6 @@ abbrev μ-loop : tie.MeasureT-loop
 loop-holds : tie.Need-loop-holds Inv-loop μ-loop
 loop-holds c = front-none _ _ 0 refl (length-tab _ _)
 
-mul-a : tie.Need-mul-a Inv-loop μ-loop
-mul-a c = search needs
-
-shared-slice-read-a : tie.Need-shared-slice-read-a Inv-loop μ-loop
-shared-slice-read-a c = search needs
-
-mul-b : tie.Need-mul-b Inv-loop μ-loop
-mul-b c = search needs
-
-shared-slice-read-b : tie.Need-shared-slice-read-b Inv-loop μ-loop
-shared-slice-read-b c = search needs
-
 add-reduced-requires : tie.Need-add-reduced-requires Inv-loop μ-loop
 add-reduced-requires c κs =
     let s = c .before .before .before .loop in
@@ -42,15 +30,6 @@ add-reduced-requires c κs =
     let first : at (a .readings .now) (s .p) < a .q = below-at (a .q) (a .readings .now) (start .pre .0) (start .pre .3) (s .p) in
     let second : at (a .key .now) (s .p) < a .q = below-at (a .q) (a .key .now) (start .pre .0) (start .pre .4) (s .p) in
     (omega (arith, start .pre .0), omega (arith, start .pre .0))
-
-mul-out : tie.Need-mul-out Inv-loop μ-loop
-mul-out c = search needs
-
-slice-write-out : tie.Need-slice-write-out Inv-loop μ-loop
-slice-write-out c = search needs
-
-add-p : tie.Need-add-p Inv-loop μ-loop
-add-p c = search needs
 
 loop-less : tie.Need-loop-less Inv-loop μ-loop
 loop-less c =
@@ -78,14 +57,14 @@ write-upload-spec =
     Inv-loop
     μ-loop
     loop-holds
-    mul-a
-    shared-slice-read-a
-    mul-b
-    shared-slice-read-b
+    (search needs)
+    (search needs)
+    (search needs)
+    (search needs)
     add-reduced-requires
-    mul-out
-    slice-write-out
-    add-p
+    (search needs)
+    (search needs)
+    (search needs)
     loop-less
     loop-again
     same-length

@@ -7,20 +7,11 @@ use Rattle.rounds.specs.Rounds.{openChecks}
 use Rattle.rounds.proofs.machine.check_opening.Statement.{statement}
 use Rattle.rounds.proofs.machine.check_opening.Tie as tie
 
-counts-fit-requires : tie.Need-counts-fit-requires
-counts-fit-requires c κs = search needs
-
 returns : tie.Need-returns
 returns c = simp (sym (c .before .counts-fit .ensures) ∙ not-true _ (c .if1 .taken))
 
-is-prime-requires : tie.Need-is-prime-requires
-is-prime-requires c κs = search needs
-
 returns-2 : tie.Need-returns-2
 returns-2 c = simp (sym (c .before .before .before .counts-fit .ensures) ∙ not-false _ (c .before .before .if1 .left), sym (c .before .is-prime .ensures) ∙ not-true _ (c .if2 .taken))
-
-length-fits-requires : tie.Need-length-fits-requires
-length-fits-requires c κs = search needs
 
 returns-3 : tie.Need-returns-3
 returns-3 c = simp (sym (c .before .before .before .before .before .counts-fit .ensures) ∙ not-false _ (c .before .before .before .before .if1 .left), sym (c .before .before .before .is-prime .ensures) ∙ not-false _ (c .before .before .if2 .left), sym (c .before .length-fits .ensures) ∙ not-true _ (c .if3 .taken))
@@ -39,11 +30,11 @@ pub check-opening-spec : {M : Type 1} → statement M
 check-opening-spec =
     tie.close
     (tie.spec
-    counts-fit-requires
+    (search needs)
     returns
-    is-prime-requires
+    (search needs)
     returns-2
-    length-fits-requires
+    (search needs)
     returns-3
     returns-4
     returns-5)

@@ -12,9 +12,6 @@ use Rattle.rounds.proofs.StreamLaws.{past-the-end}
 use Rattle.rounds.proofs.streams.check_draw.Statement.{statement}
 use Rattle.rounds.proofs.streams.check_draw.Tie as tie
 
-length-fits-requires : tie.Need-length-fits-requires
-length-fits-requires c κs = search needs
-
 returns : tie.Need-returns
 returns c = simp (sym (c .before .length-fits .ensures) ∙ not-true _ (c .if1 .taken))
 
@@ -23,9 +20,6 @@ fits c = sym (c .before .length-fits .ensures) ∙ not-false _ (c .if1 .left)
 
 returns-2 : tie.Need-returns-2
 returns-2 c = simp (fits (c .before), ne-eqb _ _ (c .if2 .taken))
-
-sub-if4 : tie.Need-sub-if4
-sub-if4 c = search needs
 
 -- whether too few symbols are left
 abbrev few : tie.Start → Bool
@@ -48,4 +42,4 @@ returns-4 c =
 pub check-draw-spec : {M : Type 1} → statement M
 check-draw-spec =
     tie.close
-    (tie.spec length-fits-requires returns returns-2 sub-if4 returns-3 returns-4)
+    (tie.spec (search needs) returns returns-2 (search needs) returns-3 returns-4)

@@ -12,18 +12,9 @@ use Rattle.rounds.proofs.StreamLaws.{Drawable, drawable}
 use Rattle.rounds.proofs.streams.draw_at.Statement.{statement}
 use Rattle.rounds.proofs.streams.draw_at.Tie as tie
 
-check-draw-requires : tie.Need-check-draw-requires
-check-draw-requires c κs = search needs
-
-is-accepted-requires : tie.Need-is-accepted-requires
-is-accepted-requires c κs = search needs
-
 -- the code of the call
 abbrev code : tie.Start → Code
 code s = drawCode (s .args .stream .now) (s .args .at) (s .args .length) (s .args .out .now)
-
-same-length : tie.Need-same-length
-same-length c = search needs
 
 returns : tie.Need-returns
 returns c =
@@ -50,9 +41,6 @@ copy-from-requires c κs = omega (arith, known (c .before) .room, known (c .befo
 add-t13 : tie.Need-add-t13
 add-t13 c = omega (arith, known (c .before .before .before .before) .enough)
 
-same-length-2 : tie.Need-same-length-2
-same-length-2 c = search needs
-
 returns-2 : tie.Need-returns-2
 returns-2 c =
     let t : tie.Else1 = c .before .before .before .before in
@@ -67,11 +55,11 @@ pub draw-at-spec : {M : Type 1} → statement M
 draw-at-spec =
     tie.close
     (tie.spec
-    check-draw-requires
-    is-accepted-requires
-    same-length
+    (search needs)
+    (search needs)
+    (search needs)
     returns
     copy-from-requires
     add-t13
-    same-length-2
+    (search needs)
     returns-2)

@@ -4,9 +4,6 @@ use borrow.Author.Needs.{needs}
 use Rattle.vetting.proofs.Plan.in_bounds.Statement.{statement}
 use Rattle.vetting.proofs.Plan.in_bounds.Tie as tie
 
-counts-fit-requires : tie.Need-counts-fit-requires
-counts-fit-requires c κs = search needs
-
 returns : tie.Need-returns
 returns c = simp (sym (c .before .counts-fit .ensures) ∙ not-true _ (c .if1 .taken))
 
@@ -17,4 +14,4 @@ returns-3 : tie.Need-returns-3
 returns-3 c = simp (sym (c .before .before .before .before .counts-fit .ensures) ∙ not-false _ (c .before .before .before .if1 .left), le-leb _ _ (c .before .if2 .left))
 
 pub in-bounds-spec : {M : Type 1} → statement M
-in-bounds-spec = tie.close (tie.spec counts-fit-requires returns returns-2 returns-3)
+in-bounds-spec = tie.close (tie.spec (search needs) returns returns-2 returns-3)

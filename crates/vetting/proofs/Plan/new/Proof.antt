@@ -4,14 +4,8 @@ use borrow.Author.Needs.{needs}
 use Rattle.vetting.proofs.Plan.new.Statement.{statement}
 use Rattle.vetting.proofs.Plan.new.Tie as tie
 
-in-bounds-requires : tie.Need-in-bounds-requires
-in-bounds-requires c κs = search needs
-
 returns : tie.Need-returns
 returns c = simp (sym (c .before .in-bounds .ensures) ∙ not-true _ (c .if1 .taken)) (refl, refl)
-
-is-prime-requires : tie.Need-is-prime-requires
-is-prime-requires c κs = search needs
 
 returns-2 : tie.Need-returns-2
 returns-2 c = simp (sym (c .before .before .before .in-bounds .ensures) ∙ not-false _ (c .before .before .if1 .left), sym (c .before .is-prime .ensures) ∙ not-true _ (c .if2 .taken)) (refl, refl)
@@ -20,4 +14,4 @@ returns-3 : tie.Need-returns-3
 returns-3 c = simp (sym (c .before .before .before .in-bounds .ensures) ∙ not-false _ (c .before .before .if1 .left), sym (c .before .is-prime .ensures) ∙ not-false _ (c .if2 .left)) (refl, refl)
 
 pub new-spec : {M : Type 1} → statement M
-new-spec = tie.close (tie.spec in-bounds-requires returns is-prime-requires returns-2 returns-3)
+new-spec = tie.close (tie.spec (search needs) returns (search needs) returns-2 returns-3)

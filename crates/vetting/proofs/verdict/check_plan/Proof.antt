@@ -9,9 +9,6 @@ use borrow.Author.Needs.{needs}
 use Rattle.vetting.proofs.verdict.check_plan.Statement.{statement}
 use Rattle.vetting.proofs.verdict.check_plan.Tie as tie
 
-in-bounds-requires : tie.Need-in-bounds-requires
-in-bounds-requires c κs = search needs
-
 returns : tie.Need-returns
 returns c = simp (sym (c .before .in-bounds .ensures) ∙ not-true _ (c .if1 .taken))
 
@@ -30,14 +27,8 @@ mul-if2-2 c = omega (arith, base-room (c .before .before .before .before .before
 returns-2 : tie.Need-returns-2
 returns-2 c = simp (inside (c .before .before .before), ne-eqb _ _ (c .if2 .taken))
 
-is-prime-requires : tie.Need-is-prime-requires
-is-prime-requires c κs = search needs
-
 returns-3 : tie.Need-returns-3
 returns-3 c = simp (inside (c .before .before .before .before .before), eq-eqb _ _ (c .before .before .if2 .left), sym (c .before .is-prime .ensures) ∙ not-true _ (c .if3 .taken))
-
-all-below-requires : tie.Need-all-below-requires
-all-below-requires c κs = search needs
 
 returns-4 : tie.Need-returns-4
 returns-4 c = simp (inside (c .before .before .before .before .before .before .before), eq-eqb _ _ (c .before .before .before .before .if2 .left), sym (c .before .before .before .is-prime .ensures) ∙ not-false _ (c .before .before .if3 .left), sym (c .before .all-below .ensures) ∙ not-true _ (c .if4 .taken))
@@ -49,13 +40,13 @@ pub check-plan-spec : {M : Type 1} → statement M
 check-plan-spec =
     tie.close
     (tie.spec
-    in-bounds-requires
+    (search needs)
     returns
     mul-if2
     mul-if2-2
     returns-2
-    is-prime-requires
+    (search needs)
     returns-3
-    all-below-requires
+    (search needs)
     returns-4
     returns-5)

@@ -11,12 +11,6 @@ use Rattle.vetting.proofs.VerdictLaws.{table-passed}
 use Rattle.vetting.proofs.verdict.check_table.Statement.{statement}
 use Rattle.vetting.proofs.verdict.check_table.Tie as tie
 
-check-plan-requires : tie.Need-check-plan-requires
-check-plan-requires c κs = search needs
-
-is-accepted-requires : tie.Need-is-accepted-requires
-is-accepted-requires c κs = search needs
-
 returns : tie.Need-returns
 returns c =
     let a = c .before .before .before .before .args in
@@ -41,4 +35,4 @@ returns-2 c =
 pub check-table-spec : {M : Type 1} → statement M
 check-table-spec =
     tie.close
-    (tie.spec check-plan-requires is-accepted-requires returns check-columns-requires returns-2)
+    (tie.spec (search needs) (search needs) returns check-columns-requires returns-2)

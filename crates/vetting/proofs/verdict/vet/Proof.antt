@@ -12,12 +12,6 @@ use Rattle.vetting.proofs.VerdictLaws.{table-passed, columns-numbered, 
 use Rattle.vetting.proofs.verdict.vet.Statement.{statement}
 use Rattle.vetting.proofs.verdict.vet.Tie as tie
 
-check-table-requires : tie.Need-check-table-requires
-check-table-requires c κs = search needs
-
-is-accepted-requires : tie.Need-is-accepted-requires
-is-accepted-requires c κs = search needs
-
 returns : tie.Need-returns
 returns c =
     let a = c .before .before .before .before .args in
@@ -41,12 +35,6 @@ find-leak-requires c κs =
     let p = table-passed (a .plan) (a .table .now) (columnChecks (a .plan) (a .table .now)) (columns-numbered (a .plan) (a .table .now) (a .plan .rate) (λ k. k)) (told c) in
     (p .bounds, p .size, prime-pos (p .prime))
 
-enum-known-pair : tie.Need-enum-known-pair
-enum-known-pair c = search needs
-
-enum-told : tie.Need-enum-told
-enum-told c = search needs
-
 returns-2 : tie.Need-returns-2
 returns-2 c = sym (ap foundCode (c .before .pair .given .1)) ∙ found (c .before .before .before)
 
@@ -61,11 +49,11 @@ pub vet-spec : {M : Type 1} → statement M
 vet-spec =
     tie.close
     (tie.spec
-    check-table-requires
-    is-accepted-requires
+    (search needs)
+    (search needs)
     returns
     find-leak-requires
-    enum-known-pair
-    enum-told
+    (search needs)
+    (search needs)
     returns-2
     returns-3)

@@ -12,9 +12,6 @@ use borrow.Author.Needs.{needs}
 use Rattle.vetting.proofs.walk.are_dependent.Statement.{statement}
 use Rattle.vetting.proofs.walk.are_dependent.Tie as tie
 
-slice-aggregate-gather : tie.Need-slice-aggregate-gather
-slice-aggregate-gather c = search needs
-
 gather-requires : tie.Need-gather-requires
 gather-requires c κs =
     let d = c .before .before in
@@ -37,9 +34,6 @@ slice-aggregate-reduce-rows : tie.Need-slice-aggregate-reduce-rows
 slice-aggregate-reduce-rows c =
     sym (length-take-le (c .before .before .gather .result * c .before .before .before .before .before .args .cols) _ (subst (λ (n : ℕ). c .before .before .gather .result * c .before .before .before .before .before .args .cols ≤ n) (sym (c .before .s2 .given)) (room (c .before .before))))
 
-reduce-rows-requires : tie.Need-reduce-rows-requires
-reduce-rows-requires c κs = search needs
-
 returns : tie.Need-returns
 unfolding dependent
 returns c =
@@ -52,10 +46,10 @@ pub are-dependent-spec : {M : Type 1} → statement M
 are-dependent-spec =
     tie.close
     (tie.spec
-    slice-aggregate-gather
+    (search needs)
     gather-requires
     mul-m
     array-borrow-prefix-s
     slice-aggregate-reduce-rows
-    reduce-rows-requires
+    (search needs)
     returns)

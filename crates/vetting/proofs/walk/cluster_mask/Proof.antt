@@ -6,20 +6,11 @@ use borrow.Author.Needs.{needs}
 use Rattle.vetting.proofs.walk.cluster_mask.Statement.{statement}
 use Rattle.vetting.proofs.walk.cluster_mask.Tie as tie
 
-shl-result : tie.Need-shl-result
-shl-result c = search needs
-
 sub-result : tie.Need-sub-result
 sub-result c = rw (one-shl 32 (c .args .size) (omega arith)) (omega (arith, pow-pos (c .args .size)))
-
-mul-result : tie.Need-mul-result
-mul-result c = search needs
-
-shl-result-2 : tie.Need-shl-result-2
-shl-result-2 c = search needs
 
 returns : tie.Need-returns
 returns c = mask-shl 32 (c .args .size) (c .args .u * c .args .size) (omega arith) (omega arith)
 
 pub cluster-mask-spec : {M : Type 1} → statement M
-cluster-mask-spec = tie.close (tie.spec shl-result sub-result mul-result shl-result-2 returns)
+cluster-mask-spec = tie.close (tie.spec (search needs) sub-result (search needs) (search needs) returns)

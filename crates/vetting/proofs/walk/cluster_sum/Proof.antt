@@ -55,9 +55,6 @@ mul-add-mod c = omega (arith, index c, c .before .before .before .pre .2)
 shared-slice-read-add-mod : tie.Need-shared-slice-read-add-mod Inv-loop μ-loop
 shared-slice-read-add-mod c = omega (arith, index (c .before), c .before .before .before .before .pre .2)
 
-add-mod-requires : tie.Need-add-mod-requires Inv-loop μ-loop
-add-mod-requires c κs = search needs
-
 add-v : tie.Need-add-v Inv-loop μ-loop
 add-v c = omega (arith, few (c .before .before), c .before .before .loop-test .taken)
 
@@ -94,7 +91,7 @@ cluster-sum-spec =
     add-i-2
     mul-add-mod
     shared-slice-read-add-mod
-    add-mod-requires
+    (search needs)
     add-v
     loop-less
     loop-again

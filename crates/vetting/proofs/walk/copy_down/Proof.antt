@@ -20,12 +20,6 @@ abbrev μ-loop : tie.MeasureT-loop
 loop-holds : tie.Need-loop-holds Inv-loop μ-loop
 loop-holds c = (omega arith, paste-zero (c .args .levels .now) (c .args .b) (drop (c .args .a) (c .args .levels .now)))
 
-add-levels : tie.Need-add-levels Inv-loop μ-loop
-add-levels c = search needs
-
-mul-levels : tie.Need-mul-levels Inv-loop μ-loop
-mul-levels c = search needs
-
 long : (c : tie.In-loop Inv-loop μ-loop) → length (c .before .loop .levels) ≡ length (c .before .before .args .levels .now)
 long c =
     let a = c .before .before .args in
@@ -35,20 +29,8 @@ long c =
 slice-read-levels : tie.Need-slice-read-levels Inv-loop μ-loop
 slice-read-levels c = omega (arith, long (c .before))
 
-add-levels-2 : tie.Need-add-levels-2 Inv-loop μ-loop
-add-levels-2 c = search needs
-
-mul-levels-2 : tie.Need-mul-levels-2 Inv-loop μ-loop
-mul-levels-2 c = search needs
-
 slice-write-levels : tie.Need-slice-write-levels Inv-loop μ-loop
 slice-write-levels c = omega (arith, long (c .before))
-
-add-j : tie.Need-add-j Inv-loop μ-loop
-add-j c = search needs
-
-loop-less : tie.Need-loop-less Inv-loop μ-loop
-loop-less c = search needs
 
 loop-again : tie.Need-loop-again Inv-loop μ-loop
 loop-again c =
@@ -83,14 +65,14 @@ copy-down-spec =
     Inv-loop
     μ-loop
     loop-holds
-    add-levels
-    mul-levels
+    (search needs)
+    (search needs)
     slice-read-levels
-    add-levels-2
-    mul-levels-2
+    (search needs)
+    (search needs)
     slice-write-levels
-    add-j
-    loop-less
+    (search needs)
+    (search needs)
     loop-again
     same-length
     returns)

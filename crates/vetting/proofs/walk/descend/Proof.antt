@@ -17,26 +17,11 @@ size s = few-numbers (s .args .rows) (s .args .cols) (s .pre .1) (s .pre .2)
 mul-n : tie.Need-mul-n
 mul-n c = omega (arith, size (c .before))
 
-mul-b : tie.Need-mul-b
-mul-b c = search needs
-
-sub-a : tie.Need-sub-a
-sub-a c = search needs
-
 add-e : tie.Need-add-e
 add-e c = omega (arith, size (c .before), c .before .pre .4)
 
 copy-down-requires : tie.Need-copy-down-requires
 copy-down-requires c κs = (omega (arith, size (c .before .before), c .before .before .pre .3), omega (arith, size (c .before .before), c .before .before .pre .4, c .before .before .pre .0))
-
-mul-eliminate : tie.Need-mul-eliminate
-mul-eliminate c = search needs
-
-sub-eliminate : tie.Need-sub-eliminate
-sub-eliminate c = search needs
-
-part-eliminate-start : tie.Need-part-eliminate-start
-part-eliminate-start c = search needs
 
 part-eliminate-end : tie.Need-part-eliminate-end
 part-eliminate-end c =
@@ -47,12 +32,6 @@ part-eliminate-end c =
     ap length (c .before .before .copy-down .ensures) ∙ length-paste (a .levels .now) (a .k * 384) (drop (a .k * 384 - 384) (a .levels .now)) n (omega (arith, size s, s .pre .0, s .pre .4))
     (omega (arith, size s, s .pre .0, s .pre .3, s .pre .4, length-drop (a .k * 384 - 384) (a .levels .now))) in
     omega (arith, size s, s .pre .0, s .pre .4)
-
-eliminate-requires : tie.Need-eliminate-requires
-eliminate-requires c κs = search needs
-
-same-length : tie.Need-same-length
-same-length c = search needs
 
 returns : tie.Need-returns
 returns c =
@@ -78,14 +57,14 @@ descend-spec =
     tie.close
     (tie.spec
     mul-n
-    mul-b
-    sub-a
+    (search needs)
+    (search needs)
     add-e
     copy-down-requires
-    mul-eliminate
-    sub-eliminate
-    part-eliminate-start
+    (search needs)
+    (search needs)
+    (search needs)
     part-eliminate-end
-    eliminate-requires
-    same-length
+    (search needs)
+    (search needs)
     returns)

@@ -5,15 +5,6 @@ use borrow.Author.Needs.{needs}
 use Rattle.vetting.proofs.walk.find_leak.Statement.{statement}
 use Rattle.vetting.proofs.walk.find_leak.Tie as tie
 
-slice-aggregate-set-base : tie.Need-slice-aggregate-set-base
-slice-aggregate-set-base c = search needs
-
-set-base-requires : tie.Need-set-base-requires
-set-base-requires c κs = search needs
-
-slice-aggregate-walk-levels : tie.Need-slice-aggregate-walk-levels
-slice-aggregate-walk-levels c = search needs
-
 walk-levels-requires : tie.Need-walk-levels-requires
 walk-levels-requires c κs =
     let s = c .before .before .before .before .before in
@@ -29,8 +20,8 @@ pub find-leak-spec : {M : Type 1} → statement M
 find-leak-spec =
     tie.close
     (tie.spec
-    slice-aggregate-set-base
-    set-base-requires
-    slice-aggregate-walk-levels
+    (search needs)
+    (λ c κs. search needs)
+    (search needs)
     walk-levels-requires
     returns)

@@ -7,12 +7,6 @@ use borrow.Author.Needs.{needs}
 use Rattle.vetting.proofs.walk.is_chosen.Statement.{statement}
 use Rattle.vetting.proofs.walk.is_chosen.Tie as tie
 
-shr-if1 : tie.Need-shr-if1
-shr-if1 c = search needs
-
-shr-result : tie.Need-shr-result
-shr-result c = search needs
-
 returns : tie.Need-returns
 unfolding inCoalition
 returns c =
@@ -26,4 +20,4 @@ returns-2 c =
     rw (ne-eqb (a .watch / 2 ^ a .i % 2) 1 (λ e. c .if1 .left (and-mask (a .watch / 2 ^ a .i) 1 ∙ e)))
 
 pub is-chosen-spec : {M : Type 1} → statement M
-is-chosen-spec = tie.close (tie.spec shr-if1 shr-result returns returns-2)
+is-chosen-spec = tie.close (tie.spec (search needs) (search needs) returns returns-2)

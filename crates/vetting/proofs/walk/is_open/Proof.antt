@@ -9,20 +9,11 @@ use borrow.Author.Needs.{needs}
 use Rattle.vetting.proofs.walk.is_open.Statement.{statement}
 use Rattle.vetting.proofs.walk.is_open.Tie as tie
 
-shl-all : tie.Need-shl-all
-shl-all c = search needs
-
 sub-all : tie.Need-sub-all
 sub-all c = rw (one-shl 32 (c .args .size) (omega arith)) (omega (arith, pow-pos (c .args .size)))
-
-mul-result : tie.Need-mul-result
-mul-result c = search needs
-
-shr-result : tie.Need-shr-result
-shr-result c = search needs
 
 returns : tie.Need-returns
 returns c = rw (one-shl 32 (c .args .size) (omega arith), one-mul (2 ^ c .args .size), and-mask (c .args .g / 2 ^ (c .args .u * c .args .size)) (c .args .size)) refl
 
 pub is-open-spec : {M : Type 1} → statement M
-is-open-spec = tie.close (tie.spec shl-all sub-all mul-result shr-result returns)
+is-open-spec = tie.close (tie.spec (search needs) sub-all (search needs) (search needs) returns)

@@ -10,21 +10,6 @@ use borrow.Author.Needs.{needs}
 use Rattle.vetting.proofs.walk.leaks_to.Statement.{statement}
 use Rattle.vetting.proofs.walk.leaks_to.Tie as tie
 
-mul-rows : tie.Need-mul-rows
-mul-rows c = search needs
-
-add-rows : tie.Need-add-rows
-add-rows c = search needs
-
-cast-watch-mask : tie.Need-cast-watch-mask
-cast-watch-mask c = search needs
-
-cast-watch-mask-2 : tie.Need-cast-watch-mask-2
-cast-watch-mask-2 c = search needs
-
-watch-mask-requires : tie.Need-watch-mask-requires
-watch-mask-requires c κs = search needs
-
 -- a coalition has at most 16 members, and a level has room for the table
 low : (s : tie.Start) → ones (s .args .g) ≤ 16
 low s = ones-le 16 (s .args .g) (omega arith)
@@ -47,17 +32,8 @@ add-e c = omega (arith, low (c .before .before), room (c .before .before))
 mul-are-dependent : tie.Need-mul-are-dependent
 mul-are-dependent c = omega (arith, low (c .before .before))
 
-sub-are-dependent : tie.Need-sub-are-dependent
-sub-are-dependent c = search needs
-
-part-are-dependent-start : tie.Need-part-are-dependent-start
-part-are-dependent-start c = search needs
-
 part-are-dependent-end : tie.Need-part-are-dependent-end
 part-are-dependent-end c = omega (arith, low (c .before .before), room (c .before .before), c .before .before .pre .0)
-
-are-dependent-requires : tie.Need-are-dependent-requires
-are-dependent-requires c κs = search needs
 
 returns : tie.Need-returns
 returns c =
@@ -73,18 +49,18 @@ pub leaks-to-spec : {M : Type 1} → statement M
 leaks-to-spec =
     tie.close
     (tie.spec
-    mul-rows
-    add-rows
-    cast-watch-mask
-    cast-watch-mask-2
-    watch-mask-requires
+    (search needs)
+    (search needs)
+    (search needs)
+    (search needs)
+    (search needs)
     cast-b
     mul-b
     mul-e
     add-e
     mul-are-dependent
-    sub-are-dependent
-    part-are-dependent-start
+    (search needs)
+    (search needs)
     part-are-dependent-end
-    are-dependent-requires
+    (search needs)
     returns)

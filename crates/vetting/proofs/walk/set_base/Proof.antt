@@ -24,35 +24,14 @@ room s = omega (arith, base-room (s .args .plan) (within s), s .pre .3)
 mul-n : tie.Need-mul-n
 mul-n c = omega (arith, within (c .before .before .before) .counts .few-users)
 
-mul-n-2 : tie.Need-mul-n-2
-mul-n-2 c = search needs
-
 mul-e : tie.Need-mul-e
 mul-e c = omega (arith, base-room (c .before .before .before .before .before .args .plan) (within (c .before .before .before .before .before)))
 
 add-e : tie.Need-add-e
 add-e c = omega (arith, base-room (c .before .before .before .before .before .args .plan) (within (c .before .before .before .before .before)))
 
-sub-copy : tie.Need-sub-copy
-sub-copy c = search needs
-
-part-copy-start : tie.Need-part-copy-start
-part-copy-start c = search needs
-
 part-copy-end : tie.Need-part-copy-end
 part-copy-end c = omega (arith, room (c .before .before .before .before .before))
-
-copy-requires : tie.Need-copy-requires
-copy-requires c κs = search needs
-
-mul-sum-rows : tie.Need-mul-sum-rows
-mul-sum-rows c = search needs
-
-sub-sum-rows : tie.Need-sub-sum-rows
-sub-sum-rows c = search needs
-
-part-sum-rows-start : tie.Need-part-sum-rows-start
-part-sum-rows-start c = search needs
 
 part-sum-rows-end : tie.Need-part-sum-rows-end
 part-sum-rows-end c =
@@ -60,12 +39,6 @@ part-sum-rows-end c =
     let P = s .args .plan in
     let n : ℕ = usersOf P * P .rate in
     omega (arith, room s, copy-length n (P .clusters * P .rate) (n - 0) (n + P .clusters * P .rate - n) (s .args .levels .now) (s .args .table .now) _ (omega arith) (omega arith) (s .pre .1) (room s) (c .before .before .copy .ensures))
-
-sum-rows-requires : tie.Need-sum-rows-requires
-sum-rows-requires c κs = search needs
-
-same-length : tie.Need-same-length
-same-length c = search needs
 
 returns : tie.Need-returns
 unfolding baseTable
@@ -88,17 +61,17 @@ set-base-spec =
     tie.close
     (tie.spec
     mul-n
-    mul-n-2
+    (search needs)
     mul-e
     add-e
-    sub-copy
-    part-copy-start
+    (search needs)
+    (search needs)
     part-copy-end
-    copy-requires
-    mul-sum-rows
-    sub-sum-rows
-    part-sum-rows-start
+    (search needs)
+    (search needs)
+    (search needs)
+    (search needs)
     part-sum-rows-end
-    sum-rows-requires
-    same-length
+    (search needs)
+    (search needs)
     returns)

@@ -20,21 +20,6 @@ abbrev μ-loop : tie.MeasureT-loop
 loop-holds : tie.Need-loop-holds Inv-loop μ-loop
 loop-holds c = (omega arith, refl, tab-none (clusterSum (c .before .before .args .q) (c .before .before .args .size) (c .before .before .args .rate) (c .before .before .args .table .now) (c .before .before .args .u)))
 
-cluster-sum-requires : tie.Need-cluster-sum-requires Inv-loop μ-loop
-cluster-sum-requires c κs = search needs
-
-mul-out : tie.Need-mul-out Inv-loop μ-loop
-mul-out c = search needs
-
-slice-write-out : tie.Need-slice-write-out Inv-loop μ-loop
-slice-write-out c = search needs
-
-add-k : tie.Need-add-k Inv-loop μ-loop
-add-k c = search needs
-
-loop-less : tie.Need-loop-less Inv-loop μ-loop
-loop-less c = search needs
-
 loop-again : tie.Need-loop-again Inv-loop μ-loop
 loop-again c =
     let s = c .before .before .loop in
@@ -67,11 +52,11 @@ sum-row-spec =
     Inv-loop
     μ-loop
     loop-holds
-    cluster-sum-requires
-    mul-out
-    slice-write-out
-    add-k
-    loop-less
+    (search needs)
+    (search needs)
+    (search needs)
+    (search needs)
+    (search needs)
     loop-again
     same-length
     returns)

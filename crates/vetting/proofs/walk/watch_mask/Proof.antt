@@ -8,18 +8,6 @@ use borrow.Author.Needs.{needs}
 use Rattle.vetting.proofs.walk.watch_mask.Statement.{statement}
 use Rattle.vetting.proofs.walk.watch_mask.Tie as tie
 
-tested-mask-requires : tie.Need-tested-mask-requires
-tested-mask-requires c κs = search needs
-
-mul-result : tie.Need-mul-result
-mul-result c = search needs
-
-shl-result : tie.Need-shl-result
-shl-result c = search needs
-
-sub-cluster-mask : tie.Need-sub-cluster-mask
-sub-cluster-mask c = search needs
-
 cluster-mask-requires : tie.Need-cluster-mask-requires
 cluster-mask-requires c κs =
     let a = c .before .args in
@@ -42,10 +30,10 @@ pub watch-mask-spec : {M : Type 1} → statement M
 watch-mask-spec =
     tie.close
     (tie.spec
-    tested-mask-requires
-    mul-result
-    shl-result
-    sub-cluster-mask
+    (search needs)
+    (search needs)
+    (search needs)
+    (search needs)
     cluster-mask-requires
     returns
     returns-2)
