@@ -2,6 +2,7 @@
 use crate::making::fill_made;
 use crate::shapes::Shape;
 use crate::shapes::class;
+use crate::shapes::counts;
 use crate::shapes::plain;
 use crate::shapes::plan_of;
 use crate::shapes::symbols;
@@ -23,16 +24,6 @@ use testing::residue;
 use testing::seed;
 use testing::step;
 use vetting::vet;
-
-fn counts(clusters: usize, size: usize, limit: usize, rate: usize) -> Shape {
-    Shape {
-        clusters,
-        size,
-        limit,
-        rate,
-        q: 0,
-    }
-}
 
 // With the maker's rate, but for the last, which is out of bounds. No coalition is large, so that the walk is short.
 fn counts_of(n: usize) -> Shape {

@@ -138,7 +138,7 @@ pub fn drawn_shape(number: usize) -> Shape {
     }
 }
 
-fn counts(clusters: usize, size: usize, limit: usize, rate: usize) -> Shape {
+pub fn counts(clusters: usize, size: usize, limit: usize, rate: usize) -> Shape {
     Shape {
         clusters,
         size,

@@ -9,6 +9,7 @@ use testing::byte_at;
 use testing::divisors;
 use testing::narrow;
 use testing::product;
+use testing::put;
 use testing::residue;
 use testing::word_at;
 use vetting::Plan;
@@ -126,7 +127,7 @@ fn first_column(bytes: &[u8], h: Head) -> usize {
 
 fn copy(bytes: &[u8], h: Head, table: &mut [u16]) {
     for n in 0..table.len() {
-        table[n] = narrow(symbol(bytes, h, n));
+        put(table, n, symbol(bytes, h, n));
     }
 }
 

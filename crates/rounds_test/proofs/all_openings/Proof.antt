@@ -9,37 +9,16 @@ Inv-loop t₀ case₀ t case = case ≤ 3000
 abbrev μ-loop : tie.MeasureT-loop
 μ-loop t₀ case₀ t case = 3000 - case
 
-none-requires : tie.Need-none-requires Inv-loop μ-loop
-none-requires c κs = search needs
-
-loop-holds : tie.Need-loop-holds Inv-loop μ-loop
-loop-holds c = search needs
-
-run-requires : tie.Need-run-requires Inv-loop μ-loop
-run-requires c κs = search needs
-
-add-case : tie.Need-add-case Inv-loop μ-loop
-add-case c = search needs
-
-loop-less : tie.Need-loop-less Inv-loop μ-loop
-loop-less c = search needs
-
-loop-again : tie.Need-loop-again Inv-loop μ-loop
-loop-again c = search needs
-
-returns : tie.Need-returns Inv-loop μ-loop
-returns c = search needs
-
 pub all-openings-spec : {M : Type 1} → statement M
 all-openings-spec =
     tie.close
     (tie.spec
     Inv-loop
     μ-loop
-    none-requires
-    loop-holds
-    run-requires
-    add-case
-    loop-less
-    loop-again
-    returns)
+    (search needs)
+    (search needs)
+    (search needs)
+    (search needs)
+    (search needs)
+    (search needs)
+    (search needs))

@@ -9,15 +9,6 @@ use Rattle.arithmetic_test.proofs.slices.front_agrees.Tie as tie
 slice-aggregate-slice-agrees : tie.Need-slice-aggregate-slice-agrees
 slice-aggregate-slice-agrees c = sym (length-take-le _ _ (omega arith))
 
-slice-agrees-requires : tie.Need-slice-agrees-requires
-slice-agrees-requires c κs = search needs
-
-returns : tie.Need-returns
-returns c = search needs
-
-returns-2 : tie.Need-returns-2
-returns-2 c = search needs
-
 pub front-agrees-spec : {M : Type 1} → statement M
 front-agrees-spec =
-    tie.close (tie.spec slice-aggregate-slice-agrees slice-agrees-requires returns returns-2)
+    tie.close (tie.spec slice-aggregate-slice-agrees (search needs) (search needs) (search needs))

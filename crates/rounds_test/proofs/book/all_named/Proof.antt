@@ -9,41 +9,17 @@ Inv-loop book count senders i₀ i = i ≤ senders
 abbrev μ-loop : tie.MeasureT-loop
 μ-loop book count senders i₀ i = senders - i
 
-loop-holds : tie.Need-loop-holds Inv-loop μ-loop
-loop-holds c = search needs
-
-wrapping-add-usize-requires : tie.Need-wrapping-add-usize-requires Inv-loop μ-loop
-wrapping-add-usize-requires c κs = search needs
-
-is-named-requires : tie.Need-is-named-requires Inv-loop μ-loop
-is-named-requires c κs = search needs
-
-returns : tie.Need-returns Inv-loop μ-loop
-returns c = search needs
-
-add-i : tie.Need-add-i Inv-loop μ-loop
-add-i c = search needs
-
-loop-less : tie.Need-loop-less Inv-loop μ-loop
-loop-less c = search needs
-
-loop-again : tie.Need-loop-again Inv-loop μ-loop
-loop-again c = search needs
-
-returns-2 : tie.Need-returns-2 Inv-loop μ-loop
-returns-2 c = search needs
-
 pub all-named-spec : {M : Type 1} → statement M
 all-named-spec =
     tie.close
     (tie.spec
     Inv-loop
     μ-loop
-    loop-holds
-    wrapping-add-usize-requires
-    is-named-requires
-    returns
-    add-i
-    loop-less
-    loop-again
-    returns-2)
+    (search needs)
+    (search needs)
+    (search needs)
+    (search needs)
+    (search needs)
+    (search needs)
+    (search needs)
+    (search needs))

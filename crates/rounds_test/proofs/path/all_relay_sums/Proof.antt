@@ -11,45 +11,18 @@ Inv-loop p uploads sums₀ n i₀ sums i = length sums ≡ length sums₀
 abbrev μ-loop : tie.MeasureT-loop
 μ-loop p uploads sums₀ n i₀ sums i = n - i
 
-loop-holds : tie.Need-loop-holds Inv-loop μ-loop
-loop-holds c = search needs
-
-relay-sums-requires : tie.Need-relay-sums-requires Inv-loop μ-loop
-relay-sums-requires c κs = search needs
-
-same-length : tie.Need-same-length Inv-loop μ-loop
-same-length c = search needs
-
-returns : tie.Need-returns Inv-loop μ-loop
-returns c = search needs
-
-add-i : tie.Need-add-i Inv-loop μ-loop
-add-i c = search needs
-
-loop-less : tie.Need-loop-less Inv-loop μ-loop
-loop-less c = search needs
-
-loop-again : tie.Need-loop-again Inv-loop μ-loop
-loop-again c = search needs
-
-same-length-2 : tie.Need-same-length-2 Inv-loop μ-loop
-same-length-2 c = search needs
-
-returns-2 : tie.Need-returns-2 Inv-loop μ-loop
-returns-2 c = search needs
-
 pub all-relay-sums-spec : {M : Type 1} → statement M
 all-relay-sums-spec =
     tie.close
     (tie.spec
     Inv-loop
     μ-loop
-    loop-holds
-    relay-sums-requires
-    same-length
-    returns
-    add-i
-    loop-less
-    loop-again
-    same-length-2
-    returns-2)
+    (search needs)
+    (search needs)
+    (search needs)
+    (search needs)
+    (search needs)
+    (search needs)
+    (search needs)
+    (search needs)
+    (search needs))

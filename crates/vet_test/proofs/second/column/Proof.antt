@@ -9,49 +9,19 @@ Inv-loop bytes h k users sum₀ j₀ sum j = j ≤ users
 abbrev μ-loop : tie.MeasureT-loop
 μ-loop bytes h k users sum₀ j₀ sum j = users - j
 
-users-requires : tie.Need-users-requires Inv-loop μ-loop
-users-requires c κs = search needs
-
-loop-holds : tie.Need-loop-holds Inv-loop μ-loop
-loop-holds c = search needs
-
-product-requires : tie.Need-product-requires Inv-loop μ-loop
-product-requires c κs = search needs
-
-after-requires : tie.Need-after-requires Inv-loop μ-loop
-after-requires c κs = search needs
-
-symbol-requires : tie.Need-symbol-requires Inv-loop μ-loop
-symbol-requires c κs = search needs
-
-after-requires-2 : tie.Need-after-requires-2 Inv-loop μ-loop
-after-requires-2 c κs = search needs
-
-add-j : tie.Need-add-j Inv-loop μ-loop
-add-j c = search needs
-
-loop-less : tie.Need-loop-less Inv-loop μ-loop
-loop-less c = search needs
-
-loop-again : tie.Need-loop-again Inv-loop μ-loop
-loop-again c = search needs
-
-returns : tie.Need-returns Inv-loop μ-loop
-returns c = search needs
-
 pub column-spec : {M : Type 1} → statement M
 column-spec =
     tie.close
     (tie.spec
     Inv-loop
     μ-loop
-    users-requires
-    loop-holds
-    product-requires
-    after-requires
-    symbol-requires
-    after-requires-2
-    add-j
-    loop-less
-    loop-again
-    returns)
+    (search needs)
+    (search needs)
+    (search needs)
+    (search needs)
+    (search needs)
+    (search needs)
+    (search needs)
+    (search needs)
+    (search needs)
+    (search needs))
