@@ -1,7 +1,8 @@
 // Numbers drawn from a seed, and arithmetic on usize, which also counts places in tables.
 ghost use mathlib.Core.Path.{_≡_};
 ghost use Prim.Native.Nat.{_*_, _≤_};
-ghost use Rattle.testing.specs.Numbers.{residueOf, quotientOf, low, lowProduct, mulAddOf, powerOf, divisorsOf, primeOf, stepOf, seedOf, drawOf, stateOf, drawnOf};
+ghost use Rattle.testing.specs.Numbers.{residueOf, quotientOf, low, lowProduct, mulAddOf, powerOf, divisorsOf, primeOf};
+ghost use Rattle.testing.specs.Numbers.{stepOf, seedOf, drawOf, stateOf, drawnOf};
 use arithmetic::Symbol;
 
 // The next state, of 32 bits: the upper half is mixed into the lower one, and by the product the lower into the upper, so that no two runs of states keep
