@@ -24,7 +24,7 @@ pub(crate) fn length_fits(length: usize) -> bool
     length <= Plan::MAX_LENGTH
 }
 
-// a - b, and q more where b is larger. Both arms are plain numbers, so that the choice compiles to no jump.
+// a - b, and q more where b is larger. Both arms are short sums of what is at hand, so that the choice compiles to no jump.
 fn sub_reduced(q: Symbol, a: Symbol, b: Symbol) -> Symbol
     requires { ⌜ (a < q) × (b ≤ q) ⌝ }
     ensures { λ r. ⌜ r ≡ residue q (a + (q - b)) ⌝ }
