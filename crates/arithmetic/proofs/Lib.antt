@@ -4,4 +4,5 @@ pub mod PrimeLaws
 pub mod InverseLaws
 pub mod PowerLaws
 pub mod FieldLaws
+pub mod SymbolLaws
 mod Sizes

@@ -24,6 +24,21 @@ fn plus(q: u64, a: u64, b: u64) -> u64 {
     if s < q { s } else { wrapping_sub_u64(s, q) }
 }
 
+// Of any two numbers, as it is defined: a number past q adds nothing.
+pub fn symbol_sum(q: u64, a: u64, b: u64) -> u64 {
+    if q < b { a } else { plus(q, a, b) }
+}
+
+// And takes off no more than q.
+pub fn symbol_difference(q: u64, a: u64, b: u64) -> u64 {
+    let off = if q < b { q } else { b };
+    if off <= a {
+        a - off
+    } else {
+        wrapping_add_u64(a, q - off)
+    }
+}
+
 pub fn add_often(q: u64, start: u64, step: u64, times: u64) -> u64 {
     let mut n = start;
     for k in 0..times {

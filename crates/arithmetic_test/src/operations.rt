@@ -7,6 +7,8 @@ use crate::counting::inverse;
 use crate::counting::last_below;
 use crate::counting::power;
 use crate::counting::rest;
+use crate::counting::symbol_difference;
+use crate::counting::symbol_sum;
 use crate::divisors::has_two;
 use crate::numbers::wide;
 use arithmetic::Answer;
@@ -14,6 +16,8 @@ use arithmetic::Answer;
 pub enum Operation {
     Sum,
     Difference,
+    SymbolSum,
+    SymbolDifference,
     Opposite,
     Product,
     MulAdd,
@@ -29,6 +33,8 @@ fn second_result(operation: Operation, c: Case) -> u64 {
     match operation {
         Operation::Sum => add_often(q, a, rest(q, 1), b),
         Operation::Difference => add_often(q, a, last_below(q), b),
+        Operation::SymbolSum => symbol_sum(q, wide(c.a), b),
+        Operation::SymbolDifference => symbol_difference(q, wide(c.a), b),
         Operation::Opposite => add_often(q, 0, last_below(q), wide(c.a)),
         Operation::Product => add_often(q, 0, a, b),
         Operation::MulAdd => add_often(q, a, rest(q, wide(c.m)), b),
@@ -41,6 +47,8 @@ fn result(operation: Operation, c: Case) -> u16 {
     match operation {
         Operation::Sum => arithmetic::add_mod(c.q, c.a, c.b),
         Operation::Difference => arithmetic::sub_mod(c.q, c.a, c.b),
+        Operation::SymbolSum => arithmetic::add_symbols(c.q, c.a, c.b),
+        Operation::SymbolDifference => arithmetic::sub_symbols(c.q, c.a, c.b),
         Operation::Opposite => arithmetic::opposite_mod(c.q, c.a),
         Operation::Product => arithmetic::mul_mod(c.q, c.a, c.b),
         Operation::MulAdd => arithmetic::mul_add_mod(c.q, c.a, c.m, c.b),
@@ -97,6 +105,17 @@ fn checked_agrees(divisors: &[u8; 65536], operation: Operation, c: Case, second:
     outcome(answer(operation, c)) == expected
 }
 
+// Where both are symbols, what needs no division is what counting gives.
+fn symbols_agree(operation: Operation, c: Case, second: u64) -> bool {
+    if c.q <= c.a || c.q <= c.b {
+        return true;
+    }
+    match operation {
+        Operation::SymbolSum => second == second_result(Operation::Sum, c),
+        _ => second == second_result(Operation::Difference, c),
+    }
+}
+
 // The opposite and the product added to a number have no form with tests.
 pub fn operation_agrees(divisors: &[u8; 65536], operation: Operation, c: Case) -> bool {
     let second = second_result(operation, c);
@@ -104,8 +123,8 @@ pub fn operation_agrees(divisors: &[u8; 65536], operation: Operation, c: Case) -
         return false;
     }
     match operation {
-        Operation::Opposite => true,
-        Operation::MulAdd => true,
+        Operation::Opposite | Operation::MulAdd => true,
+        Operation::SymbolSum | Operation::SymbolDifference => symbols_agree(operation, c, second),
         _ => checked_agrees(divisors, operation, c, second),
     }
 }

@@ -132,6 +132,14 @@ pub fn sums(t: Tally, divisors: &[u8; 65536]) -> Tally {
         Operation::Difference,
         PAIRS,
     );
+    s = two_lines(s, divisors, b"add_symbols", Operation::SymbolSum, PAIRS);
+    s = two_lines(
+        s,
+        divisors,
+        b"sub_symbols",
+        Operation::SymbolDifference,
+        PAIRS,
+    );
     two_lines(s, divisors, b"opposite_mod", Operation::Opposite, SINGLES)
 }
 

@@ -12,15 +12,15 @@ use Rattle.secrecy.specs.Lists.{tab}
 use Rattle.secrecy.specs.Model.{Pool, reading, key, upload}
 use Rattle.secrecy.proofs.ListLaws.{at-tab, length-tab, tab-cong}
 use Rattle.secrecy.proofs.RankCondition.{ZeroSum}
-use Rattle.vetting.specs.declared.Plan.{Plan}
-use Rattle.vetting.specs.Plans.{poolOf, usersOf}
+use Rattle.plans.specs.declared.Plan.{Plan}
+use Rattle.plans.specs.Plans.{poolOf, usersOf}
 use Rattle.vetting.specs.Walk.{pairs}
 use Rattle.vetting.specs.Verdict.{columnSum, leakCheck, otherChecks, verdict}
 use Rattle.keys.specs.Keys.{keysOf}
-use Rattle.vetting.proofs.Joins.{join-part}
+use Rattle.secrecy.proofs.Joins.{join-part}
 use Rattle.refusals.proofs.Orders.{first-accepts}
 use Rattle.vetting.proofs.VerdictLaws.{columns-numbered, columns-passed}
-use Rattle.rounds.specs.Blocks.{uploadOf}
+use Rattle.masking.specs.Blocks.{uploadOf}
 
 -- the L symbols of user i among the derived keys
 pub keys-are : (P : Plan) (K : List ℕ) (L : ℕ) (N : List ℕ) (i : ℕ) → i < usersOf P → take L (drop (i * L) (keysOf P K L N)) ≡ tab L (key (poolOf P K) N i)

@@ -16,7 +16,7 @@ use Rattle.secrecy.specs.Lists.{tab, joinTo, picked}
 use Rattle.secrecy.specs.Counts.{sumTo, howMany}
 use Rattle.secrecy.specs.Model.{inCoalition}
 use Rattle.secrecy.specs.Leaks.{leaks}
-use Rattle.vetting.specs.Plans.{plan, poolOf}
+use Rattle.plans.specs.Plans.{plan, poolOf}
 use Rattle.vetting.specs.Walk.{pairs, observers}
 use Rattle.vetting.specs.Verdict.{columnSum, verdict}
 use Rattle.vetting.specs.Walking.{clusterSum, baseTable, membersFrom, reducedBy, dependent, openMask, testedMask, firstHit}

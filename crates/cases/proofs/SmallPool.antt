@@ -12,14 +12,14 @@ use Rattle.matrices.specs.Tables.{pivotOf, scaled, fused, cleared, eachRow, eli
 use Rattle.secrecy.specs.Lists.{tab, joinTo, picked}
 use Rattle.secrecy.specs.Counts.{sumTo, howMany}
 use Rattle.secrecy.specs.Model.{inCoalition, reading, key, upload, relaySum, total}
-use Rattle.vetting.specs.Plans.{plan, poolOf, planChecks}
+use Rattle.plans.specs.Plans.{plan, poolOf, planChecks}
 use Rattle.vetting.specs.Walk.{pairs, observers}
 use Rattle.vetting.specs.Verdict.{columnSum, verdict}
 use Rattle.vetting.specs.Walking.{clusterSum, baseTable, membersFrom, reducedBy, dependent, openMask, testedMask, firstHit}
 use Rattle.keys.specs.Maker.{rateOf, entry, lastEntry, madeTable, makerChecks}
 use Rattle.keys.specs.Keys.{keysOf}
 use Rattle.vetting.proofs.VerdictLaws.{walk-verdict}
-use Rattle.rounds.specs.Blocks.{uploadOf}
+use Rattle.masking.specs.Blocks.{uploadOf}
 use Rattle.rounds.specs.Ledger.{frame, named, bitsOf, countedAt}
 use Rattle.rounds.specs.Rounds.{hasBit, opened, runOf}
 

@@ -2,17 +2,19 @@
 ghost use mathlib.Core.Path.{_≡_};
 ghost use Prim.Native.Nat.{_<_};
 ghost use lib.ListN.{length};
-ghost use Rattle.vetting.specs.Plans.{plan, plannedCode};
+ghost use Rattle.plans.specs.Plans.{plan, plannedCode};
 ghost use Rattle.vetting.specs.Verdict.{verdict};
 ghost use Rattle.keys.specs.Maker.{makerCode, makerTable};
 ghost use Rattle.keys.specs.Keys.{keyCode, keysAfter};
-ghost use Rattle.rounds.specs.Blocks.{blockCode, uploadAfter, unmaskAfter};
+ghost use Rattle.masking.specs.Blocks.{blockCode, uploadAfter, unmaskAfter};
 ghost use Rattle.rounds.specs.Ledger.{frame};
 ghost use Rattle.exports.specs.Packed.{packed};
 ghost use Rattle.exports.specs.States.{frameCode, frameNext};
 ghost use Rattle.reports.specs.Program.{programCode};
 ghost use Rattle.exports.specs.Reading.{countsOf, entryCode, entryTable, entryCounts};
 use arithmetic::Symbol;
+use plans::Plan;
+use plans::Planned;
 use refusals::Code;
 use refusals::Refusal;
 use refusals::Verdict;
@@ -20,8 +22,6 @@ use refusals::code_of;
 use refusals::verdict_code;
 use rounds::RelayRound;
 use rounds::Round;
-use vetting::Plan;
-use vetting::Planned;
 
 // A code as one number, 16 bits for each of its three.
 fn pack(code: Code) -> u64
@@ -117,7 +117,7 @@ pub extern "C" fn kortyghai_upload(
     ensures code { λ r. ⌜ r ≡ packed (blockCode q length (now (readings .entry)) (now (key .entry)) (now (out .entry))) ⌝ }
     ensures out { λ _. ⌜ now (out .exit) ≡ uploadAfter q length (now (readings .entry)) (now (key .entry)) (now (out .entry)) ⌝ }
 {
-    pack(verdict_code(rounds::upload(q, length, readings, key, out)))
+    pack(verdict_code(masking::upload(q, length, readings, key, out)))
 }
 
 // The readings of an upload, for whoever has its key.
@@ -132,7 +132,7 @@ pub extern "C" fn kortyghai_unmask(
     ensures code { λ r. ⌜ r ≡ packed (blockCode q length (now (upload .entry)) (now (key .entry)) (now (out .entry))) ⌝ }
     ensures out { λ _. ⌜ now (out .exit) ≡ unmaskAfter q length (now (upload .entry)) (now (key .entry)) (now (out .entry)) ⌝ }
 {
-    pack(verdict_code(rounds::unmask(q, length, upload, key, out)))
+    pack(verdict_code(masking::unmask(q, length, upload, key, out)))
 }
 
 // A frame into a relay's round, whose state is handed over in numbers; who has reported and the sums are lent, and stand as the step leaves them.

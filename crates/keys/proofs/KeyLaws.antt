@@ -5,7 +5,7 @@ use mathlib.Core.Bool.{Bool, not, _&&_}
 use mathlib.Core.List.{List, [], _∷_}
 use native.Mathlib.Omega.{arith}
 use lib.ListN.{length, take, drop}
-use lib.Dec.{leb, eqb, eqb→eq}
+use lib.Dec.{eqb, eqb→eq}
 use borrow.Author.Tests.{not-false}
 use Rattle.refusals.specs.declared.Code.{Code}
 use Rattle.refusals.specs.Codes.{code, accepted, firstOf, ifAccepted}
@@ -18,14 +18,14 @@ use Rattle.secrecy.specs.Lists.{tab, joinTo}
 use Rattle.secrecy.specs.Model.{key}
 use Rattle.secrecy.proofs.Sums.{sum-cong}
 use Rattle.secrecy.proofs.ListLaws.{at-tab, length-tab, tab-cong}
-use Rattle.vetting.specs.declared.Plan.{Plan}
-use Rattle.vetting.specs.Plans.{poolOf, usersOf}
+use Rattle.plans.specs.declared.Plan.{Plan}
+use Rattle.plans.specs.Plans.{poolOf, usersOf, lengthFits}
 use Rattle.vetting.specs.Verdict.{vetChecks}
 use Rattle.keys.specs.Keys.{keysOf, keyChecks}
 use Rattle.refusals.proofs.Orders.{rest-decides, first-accepts}
 use Rattle.vetting.proofs.PlanLaws.{Vetted, vetted, vet-numbered}
-use Rattle.vetting.proofs.Fronts.{length-part, part-at}
-use Rattle.vetting.proofs.Joins.{length-join, join-part}
+use Rattle.matrices.proofs.Fronts.{length-part, part-at}
+use Rattle.secrecy.proofs.Joins.{length-join, join-part}
 
 -- ---- the derived list
 
@@ -78,7 +78,7 @@ keys-at P K L N i p h l =
 -- those after the vet's
 abbrev pub blockChecks : Plan → ℕ → List ℕ → List ℕ → List (Bool × Code)
 blockChecks P L N out =
-    (not (leb 1 L && leb L 64), code 9)
+    (not (lengthFits L), code 9)
     ∷ (not (eqb (length N) (L * P .rate) && eqb (length out) (usersOf P * L)), code 4)
     ∷ (not (allBelow (P .q) N), code 3)
     ∷ []

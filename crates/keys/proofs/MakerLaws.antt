@@ -26,14 +26,14 @@ use Rattle.secrecy.specs.Counts.{sumTo}
 use Rattle.secrecy.specs.Lists.{tab}
 use Rattle.secrecy.proofs.Sums.{sum-cong}
 use Rattle.secrecy.proofs.ListLaws.{at-tab, length-tab, tab-cong, tab-at}
-use Rattle.vetting.specs.declared.Plan.{Plan}
-use Rattle.vetting.specs.Plans.{usersOf, countsFit, inBounds}
+use Rattle.plans.specs.declared.Plan.{Plan}
+use Rattle.plans.specs.Plans.{usersOf, countsFit, inBounds}
 use Rattle.vetting.specs.Walk.{pairs}
 use Rattle.vetting.specs.Verdict.{columnSum, columnCheck, leakCheck, otherChecks, vetChecks, verdict}
 use Rattle.keys.specs.Maker.{rateOf, planOf, entry, lastEntry, madeTable, makerChecks}
 use Rattle.refusals.proofs.Orders.{none-decide, first-accepts}
-use Rattle.vetting.proofs.PlanLaws.{Counts, counts-known, some-users, Bounds, bounds-known}
-use Rattle.vetting.proofs.Fronts.{length-part, part-at}
+use Rattle.plans.proofs.PlanBounds.{Counts, counts-known, some-users, Bounds, bounds-known}
+use Rattle.matrices.proofs.Fronts.{length-part, part-at}
 
 -- ---- the rate
 

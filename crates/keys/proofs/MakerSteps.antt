@@ -15,7 +15,7 @@ use Rattle.secrecy.specs.Lists.{tab}
 use Rattle.secrecy.proofs.Sums.{sum-cong}
 use Rattle.secrecy.proofs.ListLaws.{at-tab, length-tab, tab-cong}
 use Rattle.keys.specs.Maker.{entry, lastEntry}
-use Rattle.vetting.proofs.Fronts.{Front, length-part}
+use Rattle.matrices.proofs.Fronts.{Front, length-part}
 use Rattle.keys.proofs.MakerLaws.{tab-part, entry-power, cell, made-split}
 
 -- ---- a row of powers

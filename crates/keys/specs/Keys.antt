@@ -2,15 +2,15 @@
 use Prim.Native.Nat.{ℕ, _*_}
 use mathlib.Core.Bool.{Bool, not, _&&_}
 use mathlib.Core.List.{List, [], _∷_, _++_}
-use lib.Dec.{leb, eqb}
+use lib.Dec.{eqb}
 use lib.ListN.{length}
 use Rattle.refusals.specs.declared.Code.{Code}
 use Rattle.refusals.specs.Codes.{code, firstOf, ifAccepted}
 use Rattle.arithmetic.specs.Primes.{allBelow}
 use Rattle.secrecy.specs.Lists.{tab, joinTo}
 use Rattle.secrecy.specs.Model.{key}
-use Rattle.vetting.specs.declared.Plan.{Plan}
-use Rattle.vetting.specs.Plans.{poolOf, usersOf}
+use Rattle.plans.specs.declared.Plan.{Plan}
+use Rattle.plans.specs.Plans.{poolOf, usersOf, lengthFits}
 use Rattle.vetting.specs.Verdict.{vetChecks}
 
 -- user by user, L symbols each
@@ -21,7 +21,7 @@ keysOf P K L N = joinTo (usersOf P) (λ i. tab L (key (poolOf P K) N i))
 abbrev pub keyChecks : Plan → List ℕ → ℕ → List ℕ → List ℕ → List (Bool × Code)
 keyChecks P K L N out =
     vetChecks P K
-    ++ (not (leb 1 L && leb L 64), code 9)
+    ++ (not (lengthFits L), code 9)
     ∷ (not (eqb (length N) (L * P .rate) && eqb (length out) (usersOf P * L)), code 4)
     ∷ (not (allBelow (P .q) N), code 3)
     ∷ []

@@ -10,8 +10,8 @@ use Rattle.arithmetic.specs.Primes.{isPrime}
 use Rattle.arithmetic.specs.Field.{powerOf, oppositeOf}
 use Rattle.secrecy.specs.Lists.{tab}
 use Rattle.secrecy.specs.Counts.{sumTo}
-use Rattle.vetting.specs.declared.Plan.{Plan}
-use Rattle.vetting.specs.Plans.{countsFit, noPlan}
+use Rattle.plans.specs.declared.Plan.{Plan}
+use Rattle.plans.specs.Plans.{countsFit, noPlan}
 use Rattle.vetting.specs.Walk.{pairs}
 use Rattle.vetting.specs.Verdict.{leakCheck}
 

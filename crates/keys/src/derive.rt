@@ -6,12 +6,13 @@ ghost use Rattle.refusals.specs.Codes.{verdictCode};
 ghost use Rattle.matrices.specs.Linear.{at};
 ghost use Rattle.secrecy.specs.Counts.{sumTo};
 ghost use Rattle.secrecy.specs.Lists.{tab};
-ghost use Rattle.vetting.specs.Plans.{usersOf};
+ghost use Rattle.plans.specs.Plans.{usersOf};
 ghost use Rattle.keys.specs.Keys.{keysOf, keyCode, keysAfter};
 use arithmetic::Symbol;
+use plans::Plan;
+use plans::length_fits;
 use refusals::Refusal;
 use refusals::Verdict;
-use vetting::Plan;
 use vetting::vet;
 
 // The products of a row with the source symbols of one position, from the first to the last; the sum so far is kept modulo q.
@@ -85,7 +86,7 @@ fn check_keys(
     if !vetted.is_accepted() {
         return vetted;
     }
-    if length < 1 || length > Plan::MAX_LENGTH {
+    if !length_fits(length) {
         return Verdict::Refused(Refusal::BadBlockLength);
     }
     if source.len() != length * plan.rate || keys.len() != plan.clusters * plan.size * length {

@@ -11,7 +11,7 @@ ghost use Rattle.arithmetic.specs.Field.{powerOf, oppositeOf};
 ghost use Rattle.matrices.specs.Linear.{at};
 ghost use Rattle.secrecy.specs.Counts.{sumTo};
 ghost use Rattle.secrecy.specs.Lists.{tab};
-ghost use Rattle.vetting.specs.Plans.{usersOf, inBounds, noPlan, plannedCode, plannedPlan};
+ghost use Rattle.plans.specs.Plans.{usersOf, inBounds, noPlan, plannedCode, plannedPlan};
 ghost use Rattle.vetting.specs.Walk.{pairs};
 ghost use Rattle.vetting.specs.Verdict.{leakCheck};
 ghost use Rattle.keys.specs.Maker.{rateOf, planOf, entry, madeTable, makerChecks, makerCode, makerPlan, makerTable};
@@ -19,11 +19,11 @@ use arithmetic::Symbol;
 use arithmetic::is_prime;
 use arithmetic::power_mod;
 use matrices::copy;
+use plans::Plan;
+use plans::Planned;
+use plans::counts_fit;
 use refusals::Refusal;
 use refusals::Verdict;
-use vetting::Plan;
-use vetting::Planned;
-use vetting::counts_fit;
 use vetting::vet;
 
 // R, for counts within their bounds: what a relay asks, and what the server asks, which is never more than the users but one.

@@ -10,3 +10,4 @@ mod RankExamples
 mod Steps
 mod Rows
 mod RankChecks
+pub mod Fronts

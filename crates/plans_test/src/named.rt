@@ -14,9 +14,9 @@ use arithmetic::Symbol;
 use arithmetic::is_prime;
 use keys::derive_keys;
 use keys::make_table;
+use plans::Plan;
 use testing::narrow;
 use testing::same;
-use vetting::Plan;
 use vetting::vet;
 
 fn new_refusal(s: Shape) -> usize {

@@ -1,4 +1,6 @@
 // Counts and moduli, right ones drawn, and wrong ones; what the library says of them as one number.
+use plans::Plan;
+use plans::Planned;
 use refusals::Refusal;
 use refusals::Verdict;
 use testing::draw;
@@ -7,8 +9,6 @@ use testing::product;
 use testing::seed;
 use testing::step;
 use testing::wide;
-use vetting::Plan;
-use vetting::Planned;
 
 // The counts of a plan and its q, all as numbers of one type.
 pub struct Shape {

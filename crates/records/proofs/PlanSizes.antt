@@ -3,9 +3,9 @@ use Prim.Native.Nat.{_*_, _≤_}
 use mathlib.Core.Path.{_≡_}
 use mathlib.Core.Bool.{true}
 use native.Mathlib.Omega.{arith}
-use Rattle.vetting.specs.declared.Plan.{Plan}
-use Rattle.vetting.specs.Plans.{usersOf, inBounds}
-use Rattle.vetting.proofs.PlanBounds.{bounds-known, few-numbers}
+use Rattle.plans.specs.declared.Plan.{Plan}
+use Rattle.plans.specs.Plans.{usersOf, inBounds}
+use Rattle.plans.proofs.PlanBounds.{bounds-known, few-numbers}
 
 pub record Bounded (P : Plan) : Type 0 where
   pub clusters : P .clusters ≤ 8

@@ -12,8 +12,8 @@ use Rattle.refusals.specs.Codes.{accepted}
 use Rattle.refusals.proofs.CodeLaws.{none-holds}
 use Rattle.arithmetic.specs.Primes.{isPrime, allBelow}
 use Rattle.arithmetic.proofs.Searches.{true→T, T-and}
-use Rattle.vetting.specs.declared.Plan.{Plan}
-use Rattle.vetting.specs.Plans.{usersOf, inBounds}
+use Rattle.plans.specs.declared.Plan.{Plan}
+use Rattle.plans.specs.Plans.{usersOf, inBounds}
 use Rattle.records.specs.Records.{wordsOf, recordSize, distance, start, badTrailer, planRead, tableRead, readChecks, readVerdict, writeChecks, writeVerdict}
 use Rattle.records.proofs.Trailers.{trailer-of}
 

@@ -6,7 +6,7 @@ use lib.ListN.{set, replicate}
 use Rattle.refusals.specs.Codes.{code, accepted}
 use Rattle.arithmetic.specs.Search.{allTo}
 use Rattle.arithmetic.specs.Primes.{isPrime, allBelow}
-use Rattle.vetting.specs.Plans.{plan}
+use Rattle.plans.specs.Plans.{plan}
 use Rattle.records.specs.Records.{wordsOf, bytesOfAll, recordOf, planRead, tableRead, readVerdict}
 
 table : List ℕ

@@ -10,8 +10,8 @@ use borrow.Author.Tests.{eq-eqb}
 use Rattle.refusals.specs.Codes.{accepted}
 use Rattle.arithmetic.specs.Primes.{isPrime, allBelow}
 use Rattle.matrices.specs.Linear.{at}
-use Rattle.vetting.specs.declared.Plan.{Plan}
-use Rattle.vetting.specs.Plans.{usersOf, inBounds}
+use Rattle.plans.specs.declared.Plan.{Plan}
+use Rattle.plans.specs.Plans.{usersOf, inBounds}
 use Rattle.records.specs.Records.{word, bytesOf, wordsOf, bytesOfAll, recordSize, recordOf, distance, start, badTrailer, planRead, tableRead, readVerdict, writeVerdict}
 use Rattle.records.proofs.Bytes.{AreBytes, length-bytes, words-of-bytes, drop-two, bytes-of-word, bytes-of-words, no-bytes, byte-more, bytes-append, word-bytes, words-bytes}
 use Rattle.records.proofs.PlanSizes.{bounded}

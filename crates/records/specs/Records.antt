@@ -8,9 +8,9 @@ use Rattle.refusals.specs.declared.Code.{Code}
 use Rattle.refusals.specs.Codes.{code, firstOf, ifAccepted}
 use Rattle.arithmetic.specs.Primes.{isPrime, allBelow}
 use Rattle.matrices.specs.Linear.{at}
-use Rattle.vetting.specs.declared.Plan.{Plan}
-use Rattle.vetting.specs.Plans.{usersOf, inBounds, noPlan}
-use Rattle.vetting.specs.Verdict.{tableChecks}
+use Rattle.plans.specs.declared.Plan.{Plan}
+use Rattle.plans.specs.Plans.{usersOf, inBounds, noPlan}
+use Rattle.plans.specs.Plans.{tableChecks}
 
 -- two bytes, low first
 abbrev pub word : List ℕ → ℕ → ℕ

@@ -7,16 +7,16 @@ ghost use lib.ListN.{length};
 ghost use Rattle.refusals.specs.Codes.{verdictCode};
 ghost use Rattle.arithmetic.specs.Primes.{allBelow};
 ghost use Rattle.matrices.specs.Linear.{at};
-ghost use Rattle.vetting.specs.Plans.{usersOf, inBounds, plannedCode, plannedPlan};
+ghost use Rattle.plans.specs.Plans.{usersOf, inBounds, plannedCode, plannedPlan};
 ghost use Rattle.records.specs.Records.{word, bytesOf, wordsOf, bytesOfAll, recordSize, recordOf, distance, start};
 ghost use Rattle.records.specs.Records.{badTrailer, planRead, readVerdict, planAfter, tableAfter, padded, writeVerdict, bytesAfter};
 use arithmetic::Symbol;
 use arithmetic::is_prime;
+use plans::Plan;
+use plans::Planned;
+use plans::check_plan;
 use refusals::Refusal;
 use refusals::Verdict;
-use vetting::Plan;
-use vetting::Planned;
-use vetting::check_plan;
 
 // The bytes before the symbols and after them.
 const HEAD: usize = 6;

@@ -8,13 +8,13 @@ ghost use Rattle.matrices.specs.Linear.{zeros};
 ghost use Rattle.reports.specs.Program.{programCode, decimal, field, lineOf, lineWith};
 ghost use Rattle.reports.specs.Typing.{typed};
 use arithmetic::Symbol;
+use plans::Planned;
 use records::READ_TABLE;
 use records::read_record;
 use refusals::Code;
 use refusals::Refusal;
 use refusals::Verdict;
 use refusals::verdict_code;
-use vetting::Planned;
 use vetting::vet;
 
 // A line of text of at most 20 bytes, 0 past its end.

@@ -12,10 +12,10 @@ use Rattle.arithmetic.specs.Search.{allTo}
 use Rattle.arithmetic.specs.Primes.{Prime, isPrime, allBelow}
 use Rattle.arithmetic.proofs.Searches.{T→true, true→T, T-and}
 use Rattle.arithmetic.proofs.PrimeLaws.{true-prime}
-use Rattle.vetting.specs.Plans.{countsFit}
+use Rattle.plans.specs.Plans.{countsFit, lengthFits}
+use Rattle.plans.proofs.PlanBounds.{length-known}
 use Rattle.refusals.proofs.Orders.{rest-decides, first-accepts}
 use Rattle.rounds.specs.declared.Round.{Round}
-use Rattle.rounds.specs.Blocks.{lengthFits}
 use Rattle.rounds.specs.Ledger.{Frame, named}
 use Rattle.rounds.specs.Rounds.{hasBit, oneOf, openChecks, sumsFit, hasReported, stateChecks, frameChecks, giveChecks}
 use Rattle.rounds.specs.Machine.{contentChecks}
@@ -40,7 +40,7 @@ opening-known clusters size q L known e =
     record {
       fit = not-false (countsFit clusters size 0) (w .0);
       prime = true-prime q (not-false (isPrime q) (w .1 .0));
-      few-length = leb→le L 64 (T-and (leb 1 L) (leb L 64) (true→T (lengthFits L) (not-false (lengthFits L) (w .1 .1 .0))) .1);
+      few-length = length-known L (not-false (lengthFits L) (w .1 .1 .0)) .1;
     }
 
 pub record Good (senders : ℕ) (R : Round) : Type 0 where

@@ -1,5 +1,3 @@
-pub mod BlockLaws
-pub mod StreamLaws
 mod CheckLaws
 mod ReportedLaws
 mod StepLaws

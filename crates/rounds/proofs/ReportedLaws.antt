@@ -12,7 +12,7 @@ use lib.Bits.{bitAnd, bitOr, and-high, or-add-and, or-shr, or-mod, or-lt}
 use borrow.Author.Tests.{eq-eqb, ne-eqb, lt-ltb, le-ltb, le-leb, lt-leb}
 use Rattle.arithmetic.specs.Search.{allTo}
 use Rattle.secrecy.specs.Model.{inCoalition}
-use Rattle.vetting.proofs.BitLaws.{digit, one-shl, all-ones, mask-bits}
+use Rattle.secrecy.proofs.BitLaws.{digit, one-shl, all-ones, mask-bits}
 use Rattle.rounds.specs.Rounds.{hasBit}
 
 pub true-not-false : true ≡ false → ⊥

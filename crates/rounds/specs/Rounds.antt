@@ -12,11 +12,11 @@ use Rattle.arithmetic.specs.Search.{allTo}
 use Rattle.arithmetic.specs.Primes.{isPrime, allBelow}
 use Rattle.matrices.specs.Linear.{at, zeros}
 use Rattle.secrecy.specs.Lists.{tab}
-use Rattle.vetting.specs.Plans.{countsFit}
+use Rattle.plans.specs.Plans.{countsFit}
 use Rattle.rounds.specs.declared.Round.{Round}
 use Rattle.rounds.specs.declared.RelayRound.{RelayRound}
 use Rattle.rounds.specs.declared.ServerRound.{ServerRound}
-use Rattle.rounds.specs.Blocks.{lengthFits}
+use Rattle.plans.specs.Plans.{lengthFits}
 use Rattle.rounds.specs.Ledger.{Frame, named, bitsOf, countedAt}
 
 -- is bit i of n set?

@@ -1,17 +1,10 @@
-// Rounds: uploads, relay and server rounds, and the key stream.
-mod blocks;
+// Rounds: what relays and the server count, and the sums that they give.
 mod machine;
 mod relay;
 mod server;
-mod streams;
 
 use arithmetic::Symbol;
-pub use blocks::unmask;
-pub use blocks::upload;
 use refusals::Verdict;
-pub use streams::draw;
-pub use streams::draw_at;
-pub use streams::draw_from;
 
 // What both kinds of round hold: U, V, q, L, the round's number, who has reported, and the sums, 0 past position L.
 pub struct Round {
@@ -49,15 +42,4 @@ pub struct RelayStep {
 pub struct ServerStep {
     pub answer: Verdict,
     pub round: ServerRound,
-}
-
-// A place on a key stream: the symbols before it are used up.
-pub struct Position {
-    pub at: usize,
-}
-
-// The answer to a draw, and the position after it.
-pub struct Drawn {
-    pub answer: Verdict,
-    pub at: usize,
 }

@@ -7,20 +7,20 @@ ghost use lib.ListN.{length, take};
 ghost use Rattle.refusals.specs.Codes.{firstOf, verdictCode};
 ghost use Rattle.arithmetic.specs.Search.{allTo};
 ghost use Rattle.matrices.specs.Linear.{zeros};
-ghost use Rattle.vetting.specs.Plans.{countsFit};
+ghost use Rattle.plans.specs.Plans.{countsFit};
 ghost use Rattle.rounds.specs.Ledger.{frame};
 ghost use Rattle.rounds.specs.Rounds.{hasBit, oneOf, opened, openCode, openRound, stateChecks, giveCode, sumsAfter, stepCode, stepped};
 ghost use Rattle.rounds.specs.Machine.{contentChecks, ownChecks, lentChecks, Addable, Countable, withSums, addedTo, countedRound};
 use crate::Round;
 use crate::Step;
-use crate::blocks::add_reduced;
-use crate::blocks::length_fits;
 use arithmetic::Symbol;
+use arithmetic::add_symbols;
 use arithmetic::all_below;
 use arithmetic::is_prime;
+use plans::counts_fit;
+use plans::length_fits;
 use refusals::Refusal;
 use refusals::Verdict;
-use vetting::counts_fit;
 
 // Whether x is one of 1 to n.
 pub(crate) fn one_of(n: usize, x: usize) -> bool
@@ -182,7 +182,7 @@ impl Round {
     {
         let mut p = 0;
         while p < block.len() {
-            self.sums[p] = add_reduced(self.q, self.sums[p], block[p]);
+            self.sums[p] = add_symbols(self.q, self.sums[p], block[p]);
             p += 1;
         }
         self

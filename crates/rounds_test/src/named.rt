@@ -54,7 +54,7 @@ fn second_frame() -> usize {
 fn draws(at: usize, number: usize) -> usize {
     let stream = [4 as Symbol; 8];
     let mut out = [0 as Symbol; 5];
-    let drawn = rounds::draw_from(&stream, at, 5, &mut out);
+    let drawn = streams::draw_from(&stream, at, 5, &mut out);
     let answer = drawn.answer;
     if number_of(answer) == number { 1 } else { 0 }
 }

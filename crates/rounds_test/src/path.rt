@@ -13,6 +13,8 @@ use crate::steps::give;
 use crate::steps::number_of;
 use crate::steps::open;
 use arithmetic::Symbol;
+use plans::Plan;
+use plans::Planned;
 use std::num::wrapping_add_usize;
 use std::num::wrapping_sub_usize;
 use testing::at;
@@ -24,8 +26,6 @@ use testing::product;
 use testing::residue;
 use testing::same;
 use testing::seed;
-use vetting::Plan;
-use vetting::Planned;
 
 // A plan, its block length, and a seed.
 struct Pool {
@@ -188,7 +188,7 @@ fn is_unmasked(
     upload: &[Symbol],
     back: &mut [Symbol],
 ) -> bool {
-    let number = number_of(rounds::unmask(narrow(p.q), p.length, upload, key, back));
+    let number = number_of(masking::unmask(narrow(p.q), p.length, upload, key, back));
     if number != 0 {
         return false;
     }
@@ -203,7 +203,7 @@ fn comes_back(p: Pool, readings: &[Symbol], key: &[Symbol], upload: &[Symbol]) -
 
 // The upload of one user, whose key, taken off again, leaves the readings.
 fn upload(p: Pool, readings: &[Symbol], key: &[Symbol], out: &mut [Symbol]) -> bool {
-    let sent = number_of(rounds::upload(narrow(p.q), p.length, readings, key, out));
+    let sent = number_of(masking::upload(narrow(p.q), p.length, readings, key, out));
     if sent != 0 {
         return false;
     }

@@ -6,9 +6,9 @@ use crate::numbers::one_in;
 use crate::numbers::pick;
 use crate::steps::number_of;
 use arithmetic::Symbol;
-use rounds::Drawn;
 use std::num::wrapping_add_usize;
 use std::num::wrapping_sub_usize;
+use streams::Drawn;
 use testing::at;
 use testing::put;
 use testing::seed;
@@ -141,8 +141,8 @@ fn counted(mut s: Stream, number: usize, length: usize, same: bool) -> Stream {
 fn both(stream: &[Symbol], s: Stream, length: usize, a: &mut [Symbol], b: &mut [Symbol]) -> Stream {
     let place = s.place;
     let number = expected(stream.len(), place, length, a.len());
-    let first = taken(rounds::draw_at(stream, place, length, a));
-    let second = taken(rounds::draw_from(stream, place, length, b));
+    let first = taken(streams::draw_at(stream, place, length, a));
+    let second = taken(streams::draw_from(stream, place, length, b));
     let one = agrees(number, stream, place, length, first, a);
     let other = agrees(number, stream, place, length, second, b);
     counted(s, number, length, one && other)

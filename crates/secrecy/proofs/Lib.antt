@@ -15,3 +15,6 @@ mod Independence
 mod Coalitions
 pub mod Clusters
 mod LeakTest
+pub mod BitLaws
+pub mod Joins
+pub mod RunningSum

@@ -1,14 +1,14 @@
 // The inputs: the record of a drawn plan at the buffer's end with other bytes before it, left as it is or damaged at up to two places.
 // An input is made of its number alone, so that each can be looked at by itself.
+use crate::drafts::Draft;
+use crate::drafts::drawn;
+use crate::drafts::record_size;
+use crate::drafts::symbols;
+use crate::drafts::write;
 use crate::numbers::after;
 use crate::numbers::before;
 use crate::numbers::from_one;
 use crate::numbers::put_word;
-use crate::plans::Draft;
-use crate::plans::drawn;
-use crate::plans::record_size;
-use crate::plans::symbols;
-use crate::plans::write;
 use testing::byte_at;
 use testing::draw;
 use testing::fill_bytes;

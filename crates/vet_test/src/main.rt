@@ -1,7 +1,7 @@
 // Holds the whole way from bytes to the printed line to a second implementation, on drawn records, whole and damaged, and writes a tally.
+mod drafts;
 mod inputs;
 mod numbers;
-mod plans;
 mod second;
 mod tally;
 mod text;

@@ -4,6 +4,7 @@ ghost use Prim.Native.Nat.{_≤_};
 use crate::numbers::after;
 use crate::numbers::before;
 use crate::numbers::joined;
+use plans::Plan;
 use refusals::Code;
 use testing::byte_at;
 use testing::divisors;
@@ -12,7 +13,6 @@ use testing::product;
 use testing::put;
 use testing::residue;
 use testing::word_at;
-use vetting::Plan;
 
 // What the record says, and the place of its first symbol.
 struct Head {

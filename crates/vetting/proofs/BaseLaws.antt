@@ -15,10 +15,10 @@ use Rattle.secrecy.specs.Lists.{tab, joinTo}
 use Rattle.matrices.specs.Linear.{at}
 use Rattle.secrecy.specs.Counts.{sumTo}
 use Rattle.secrecy.proofs.Sums.{sum-cong}
-use Rattle.vetting.specs.declared.Plan.{Plan}
-use Rattle.vetting.specs.Plans.{usersOf}
+use Rattle.plans.specs.declared.Plan.{Plan}
+use Rattle.plans.specs.Plans.{usersOf}
 use Rattle.vetting.specs.Walking.{clusterSum}
-use Rattle.vetting.proofs.PlanBounds.{Bounds}
+use Rattle.plans.proofs.PlanBounds.{Bounds}
 use Rattle.vetting.proofs.GatherLaws.{row-put, room, few-numbers}
 
 -- ---- a row's symbols, and rows

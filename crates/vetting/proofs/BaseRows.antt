@@ -16,11 +16,11 @@ use Rattle.secrecy.proofs.Sums.{sum-cong}
 use Rattle.secrecy.proofs.ListLaws.{at-tab, length-tab, tab-at}
 use Rattle.secrecy.proofs.Units.{addTo, el-addTo, length-addTo}
 use Rattle.secrecy.proofs.RankCondition.{row, sumRow, row-vector, sum-row-vector}
-use Rattle.vetting.specs.declared.Plan.{Plan}
-use Rattle.vetting.specs.Plans.{poolOf, usersOf}
+use Rattle.plans.specs.declared.Plan.{Plan}
+use Rattle.plans.specs.Plans.{poolOf, usersOf}
 use Rattle.vetting.specs.Walking.{clusterSum, baseTable, rowsIn}
-use Rattle.vetting.proofs.PlanBounds.{Bounds}
-use Rattle.vetting.proofs.Joins.{length-join, join-part}
+use Rattle.plans.proofs.PlanBounds.{Bounds}
+use Rattle.secrecy.proofs.Joins.{length-join, join-part}
 use Rattle.vetting.proofs.GatherLaws.{row-length, room}
 
 -- ---- rows joined

@@ -20,15 +20,15 @@ use Rattle.secrecy.specs.Model.{inCoalition, inCluster}
 use Rattle.secrecy.specs.Leaks.{leaks}
 use Rattle.secrecy.proofs.RankCondition.{outside, tested, row, sumRow, coalitionRows, watchedRows, ZeroSum}
 use Rattle.secrecy.proofs.Verdicts.{leaks-iff, pair-iff}
-use Rattle.vetting.specs.declared.Plan.{Plan}
+use Rattle.plans.specs.declared.Plan.{Plan}
 use Rattle.vetting.specs.declared.Pair.{Pair}
 use Rattle.vetting.specs.declared.Found.the-variants.{At}
-use Rattle.vetting.specs.Plans.{poolOf, usersOf, inBounds}
+use Rattle.plans.specs.Plans.{poolOf, usersOf, inBounds}
 use Rattle.vetting.specs.Walk.{pairs}
 use Rattle.vetting.specs.Verdict.{columnSum, leakCheck}
 use Rattle.vetting.specs.Walking.{baseTable, rowsIn, watchMask, hit, firstHit, walked, foundCode}
-use Rattle.vetting.proofs.BitLaws.{bit-above}
-use Rattle.vetting.proofs.PlanBounds.{Bounds, bounds-known}
+use Rattle.secrecy.proofs.BitLaws.{bit-above}
+use Rattle.plans.proofs.PlanBounds.{Bounds, bounds-known}
 use Rattle.vetting.proofs.PairLists.{InWalk, pairs-in}
 use Rattle.vetting.proofs.PickedLaws.{picked-cong}
 use Rattle.vetting.proofs.ReducedTables.{table-iff, ofCoalition}

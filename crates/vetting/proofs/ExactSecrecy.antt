@@ -18,13 +18,14 @@ use Rattle.secrecy.specs.Model.{view}
 use Rattle.secrecy.specs.Leaks.{number, leaks, Symbols, Leak, Agrees, PairLeak}
 use Rattle.secrecy.proofs.RankCondition.{ZeroSum}
 use Rattle.secrecy.proofs.Verdicts.{Small, leaks-iff, equal-numbers, small-leak}
-use Rattle.vetting.specs.declared.Plan.{Plan}
+use Rattle.plans.specs.declared.Plan.{Plan}
 use Rattle.vetting.specs.declared.Pair.{Pair}
-use Rattle.vetting.specs.Plans.{poolOf, usersOf}
+use Rattle.plans.specs.Plans.{poolOf, usersOf}
 use Rattle.vetting.specs.Walk.{pairs}
 use Rattle.vetting.specs.Verdict.{columnSum, leakCheck, otherChecks, verdict, columnChecks}
 use Rattle.refusals.proofs.Orders.{rest-decides, first-accepts}
-use Rattle.vetting.proofs.VerdictLaws.{table-passed, columns-numbered, columns-passed}
+use Rattle.plans.proofs.TableLaws.{table-passed}
+use Rattle.vetting.proofs.VerdictLaws.{columns-numbered, columns-passed}
 pub use Rattle.vetting.proofs.PairLists.{InWalk, pairs-in, in-pairs}
 
 -- ---- a plan that passes the other checks

@@ -1,5 +1,4 @@
-pub mod Joins
-pub mod BitLaws
+mod MemberLaws
 mod MaskLaws
 mod LevelLaws
 mod GatherLaws
@@ -7,7 +6,6 @@ mod WalkLaws
 mod BaseLaws
 pub mod VerdictLaws
 mod PairLists
-pub mod PlanBounds
 mod PickedLaws
 mod ReducedTables
 mod WatchLaws
@@ -15,5 +13,3 @@ mod BaseRows
 mod Deciding
 pub mod ExactSecrecy
 pub mod PlanLaws
-pub mod Fronts
-pub mod RunningSum

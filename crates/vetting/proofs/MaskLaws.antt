@@ -9,7 +9,7 @@ use lib.Dec.{lit<}
 use lib.Pow.{pow-mono}
 use Rattle.secrecy.specs.Counts.{sumTo}
 use Rattle.vetting.specs.Walking.{openTo, openMask, testedMask}
-use Rattle.vetting.proofs.BitLaws.{mask-below}
+use Rattle.secrecy.proofs.BitLaws.{mask-below}
 
 module _ (size g : ℕ) where
   pub open-none : 0 ≡ openMask size g 0

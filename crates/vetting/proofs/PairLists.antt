@@ -14,9 +14,9 @@ use Rattle.matrices.proofs.Vectors.{all-append, all-left, all-right}
 use Rattle.secrecy.specs.Lists.{tab, joinTo, picked}
 use Rattle.secrecy.specs.Counts.{howMany}
 use Rattle.secrecy.specs.Model.{inCoalition}
-use Rattle.vetting.specs.declared.Plan.{Plan}
+use Rattle.plans.specs.declared.Plan.{Plan}
 use Rattle.vetting.specs.declared.Pair.{Pair}
-use Rattle.vetting.specs.Plans.{usersOf}
+use Rattle.plans.specs.Plans.{usersOf}
 use Rattle.vetting.specs.Walk.{observers, pairs}
 
 -- a coalition of at most `limit` of the users, and an observer: 0, or the number of a relay

@@ -10,11 +10,11 @@ use Rattle.refusals.proofs.CodeLaws.{numbered, none-holds}
 use Rattle.arithmetic.specs.Primes.{Prime, isPrime}
 use Rattle.arithmetic.proofs.PrimeLaws.{true-prime}
 use Rattle.secrecy.specs.Lists.{tab}
-use Rattle.vetting.specs.declared.Plan.{Plan}
-use Rattle.vetting.specs.Plans.{usersOf, inBounds}
+use Rattle.plans.specs.declared.Plan.{Plan}
+use Rattle.plans.specs.Plans.{usersOf, inBounds}
 use Rattle.vetting.specs.Walk.{pairs}
 use Rattle.vetting.specs.Verdict.{columnCheck, leakCheck, vetChecks}
-pub use Rattle.vetting.proofs.PlanBounds.{Counts, counts-known, some-users, Bounds, bounds-known, few-numbers}
+use Rattle.plans.proofs.PlanBounds.{Bounds, bounds-known}
 use Rattle.refusals.proofs.Orders.{numbered-append, numbered-map}
 
 -- ---- a plan and a key table that the vet accepts

@@ -17,32 +17,14 @@ use Rattle.arithmetic.specs.Primes.{Prime, isPrime, allBelow}
 use Rattle.arithmetic.proofs.PrimeLaws.{true-prime}
 use Rattle.secrecy.specs.Lists.{tab}
 use Rattle.secrecy.specs.Leaks.{leaks}
-use Rattle.vetting.specs.declared.Plan.{Plan}
-use Rattle.vetting.specs.Plans.{poolOf, usersOf, inBounds}
+use Rattle.plans.specs.declared.Plan.{Plan}
+use Rattle.plans.specs.Plans.{poolOf, usersOf, inBounds}
+use Rattle.plans.proofs.TableLaws.{Passed, table-passed}
 use Rattle.vetting.specs.Walk.{pairs}
-use Rattle.vetting.specs.Verdict.{columnSum, columnCheck, leakCheck, otherChecks, verdict, tableChecks, columnChecks}
+use Rattle.vetting.specs.Verdict.{columnSum, columnCheck, leakCheck, otherChecks, verdict, columnChecks}
 use Rattle.vetting.specs.Walking.{baseTable, hit, walked, foundCode}
 use Rattle.refusals.proofs.Orders.{rest-decides}
 use Rattle.vetting.proofs.Deciding.{pair-verdict, found-verdict}
-
--- ---- a plan and a table that passed
-
-pub record Passed (P : Plan) (K : List ℕ) : Type 0 where
-  pub bounds : inBounds P ≡ true
-  pub size : length K ≡ usersOf P * P .rate
-  pub prime : Prime (P .q)
-  pub below : allBelow (P .q) K ≡ true
-
--- whatever checks come after
-pub table-passed : (P : Plan) (K : List ℕ) (rest : List (Bool × Code)) → T (numbered rest) → accepted ≡ firstOf (tableChecks P K ++ rest) → Passed P K
-table-passed P K rest t e =
-    let w = none-holds (tableChecks P K ++ rest) t e in
-    record {
-      bounds = not-false (inBounds P) (w .0);
-      size = eqb-true (length K) (usersOf P * P .rate) (not-false (eqb (length K) (usersOf P * P .rate)) (w .1 .0));
-      prime = true-prime (P .q) (not-false (isPrime (P .q)) (w .1 .1 .0));
-      below = not-false (allBelow (P .q) K) (w .1 .1 .1 .0);
-    }
 
 -- ---- columns
 

@@ -23,7 +23,8 @@ use Rattle.vetting.specs.declared.Pair.{Pair}
 use Rattle.vetting.specs.declared.Found.the-variants.{At, Nothing}
 use Rattle.vetting.specs.Walk.{observers, pairs}
 use Rattle.vetting.specs.Walking.{levelAt, descended, reducedBy, tableOf, firstHit}
-use Rattle.vetting.proofs.BitLaws.{members-next, members-none, low-cleared, low-ones, cleared-fewer, cleared-next, ones-many}
+use Rattle.secrecy.proofs.BitLaws.{low-cleared, low-ones, cleared-fewer, cleared-next, ones-many}
+use Rattle.vetting.proofs.MemberLaws.{members-next, members-none}
 use Rattle.vetting.proofs.GatherLaws.{few-numbers}
 use Rattle.vetting.proofs.LevelLaws.{level-below, level-here}
 

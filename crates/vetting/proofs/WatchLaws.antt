@@ -17,7 +17,7 @@ use Rattle.secrecy.specs.Lists.{picked}
 use Rattle.secrecy.specs.Model.{Pool, users, inCoalition, inCluster}
 use Rattle.secrecy.proofs.RankCondition.{outside, opened, tested}
 use Rattle.vetting.specs.Walking.{chosen, clusterMask, openTo, openMask, testedMask, watchMask}
-use Rattle.vetting.proofs.BitLaws.{lt-or-ge, mask-bits, mask-under, mask-from, mask-has, bit-above, all-ones}
+use Rattle.secrecy.proofs.BitLaws.{lt-or-ge, mask-bits, mask-under, mask-from, mask-has, bit-above, all-ones}
 use Rattle.vetting.proofs.PickedLaws.{picked-cong, picked-nothing, picked-split}
 
 -- ---- open clusters

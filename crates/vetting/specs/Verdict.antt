@@ -3,31 +3,20 @@ use Prim.Native.Nat.{ℕ, _+_, _*_, _%_}
 use mathlib.Core.Bool.{Bool, not}
 use mathlib.Core.List.{List, [], _∷_, _++_, map}
 use lib.Dec.{eqb}
-use lib.ListN.{length}
 use Rattle.refusals.specs.declared.Code.{Code}
 use Rattle.refusals.specs.Codes.{code, firstOf}
-use Rattle.arithmetic.specs.Primes.{isPrime, allBelow}
 use Rattle.matrices.specs.Linear.{at}
 use Rattle.secrecy.specs.Lists.{tab}
 use Rattle.secrecy.specs.Counts.{sumTo}
 use Rattle.secrecy.specs.Leaks.{leaks}
-use Rattle.vetting.specs.declared.Plan.{Plan}
+use Rattle.plans.specs.declared.Plan.{Plan}
 use Rattle.vetting.specs.declared.Pair.{Pair}
-use Rattle.vetting.specs.Plans.{poolOf, usersOf, inBounds}
+use Rattle.plans.specs.Plans.{poolOf, usersOf, tableChecks}
 use Rattle.vetting.specs.Walk.{pairs}
 
 -- the sum of column k of the key table
 unfoldable pub columnSum : Plan → List ℕ → ℕ → ℕ
 columnSum P K k = sumTo (usersOf P) (λ i. at K (i * P .rate + k)) % P .q
-
--- 1, 4, 2, 3
-abbrev pub tableChecks : Plan → List ℕ → List (Bool × Code)
-tableChecks P K =
-    (not (inBounds P), code 1)
-    ∷ (not (eqb (length K) (usersOf P * P .rate)), code 4)
-    ∷ (not (isPrime (P .q)), code 2)
-    ∷ (not (allBelow (P .q) K), code 3)
-    ∷ []
 
 -- 6 names the first column whose sum is not zero, from 1
 abbrev pub columnCheck : Plan → List ℕ → ℕ → Bool × Code

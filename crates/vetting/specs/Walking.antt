@@ -13,11 +13,11 @@ use Rattle.secrecy.specs.Counts.{sumTo, howMany}
 use Rattle.secrecy.specs.Model.{inCoalition}
 use Rattle.refusals.specs.declared.Code.{Code}
 use Rattle.refusals.specs.Codes.{accepted}
-use Rattle.vetting.specs.declared.Plan.{Plan}
+use Rattle.plans.specs.declared.Plan.{Plan}
 use Rattle.vetting.specs.declared.Pair.{Pair}
 use Rattle.vetting.specs.declared.Found.{Found}
 use Rattle.vetting.specs.declared.Found.the-variants.{At, Nothing}
-use Rattle.vetting.specs.Plans.{usersOf}
+use Rattle.plans.specs.Plans.{usersOf}
 use Rattle.vetting.specs.Walk.{pairs}
 
 -- ---- the table of level 0

@@ -4,36 +4,16 @@ ghost use Prim.Native.Nat.{_*_, _<_};
 ghost use mathlib.Core.Bool.{true};
 ghost use lib.ListN.{length};
 ghost use Rattle.refusals.specs.Codes.{firstOf, verdictCode};
-ghost use Rattle.vetting.specs.Plans.{usersOf, inBounds};
-ghost use Rattle.vetting.specs.Verdict.{otherChecks, verdict, tableChecks, columnChecks};
+ghost use Rattle.plans.specs.Plans.{usersOf, inBounds};
+ghost use Rattle.vetting.specs.Verdict.{otherChecks, verdict, columnChecks};
 use crate::Found;
-use crate::Plan;
 use crate::walk::column_sum;
 use crate::walk::find_leak;
 use arithmetic::Symbol;
-use arithmetic::all_below;
-use arithmetic::is_prime;
+use plans::Plan;
+use plans::check_plan;
 use refusals::Refusal;
 use refusals::Verdict;
-
-// Checks 1, 4, 2 and 3.
-pub fn check_plan(plan: Plan, table: &[Symbol]) -> Verdict
-    ensures { λ r. ⌜ verdictCode r ≡ firstOf (tableChecks plan (now (table .entry))) ⌝ }
-{
-    if !plan.in_bounds() {
-        return Verdict::Refused(Refusal::OutOfBounds);
-    }
-    if table.len() != plan.clusters * plan.size * plan.rate {
-        return Verdict::Refused(Refusal::WrongLength);
-    }
-    if !is_prime(plan.q) {
-        return Verdict::Refused(Refusal::NotPrime);
-    }
-    if !all_below(plan.q, table) {
-        return Verdict::Refused(Refusal::NotASymbol);
-    }
-    Verdict::Accepted
-}
 
 // Check 6.
 fn check_columns(plan: Plan, table: &[Symbol]) -> Verdict

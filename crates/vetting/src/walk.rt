@@ -10,15 +10,15 @@ ghost use Rattle.matrices.specs.Linear.{at};
 ghost use Rattle.matrices.specs.Tables.{rowOf};
 ghost use Rattle.secrecy.specs.Lists.{tab, joinTo, picked};
 ghost use Rattle.secrecy.specs.Counts.{sumTo, howMany};
-ghost use Rattle.vetting.specs.Plans.{plan, usersOf, inBounds};
+ghost use Rattle.plans.specs.Plans.{plan, usersOf, inBounds};
 ghost use Rattle.vetting.specs.Walking.{chosen, clusterMask, openTo, testedMask, watchMask, clusterSum, baseTable, levelAt, descended, dependent, walked};
 use crate::Found;
 use crate::Pair;
-use crate::Plan;
 use arithmetic::Symbol;
 use matrices::copy;
 use matrices::eliminate;
 use matrices::reduce_rows;
+use plans::Plan;
 
 // Whether `watch` has bit i and `skip` doesn't.
 fn is_chosen(watch: u32, skip: u32, i: u32) -> bool

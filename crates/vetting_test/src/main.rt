@@ -10,11 +10,11 @@ use arithmetic::Symbol;
 use cases::Case;
 use libc::STDOUT_FILENO;
 use numbers::pack;
+use plans::Plan;
 use std::num::wrapping_add_usize;
 use tables::Shape;
 use testing::narrow;
 use testing::wide;
-use vetting::Plan;
 
 // One symbol more than the largest table has.
 const LONGEST: usize = 257;

@@ -12,8 +12,8 @@ use Rattle.refusals.specs.declared.Refusal.the-variants.{OutOfBounds, NotPrime,
 use Rattle.refusals.proofs.CodeLaws.{refused-keeps, accepted-takes}
 use Rattle.arithmetic.specs.Primes.{isPrime, allBelow}
 use Rattle.records.specs.Records.{recordSize, distance, badTrailer, planRead, tableRead, readChecks, readVerdict}
-use Rattle.vetting.specs.Plans.{inBounds, noPlan}
-use Rattle.vetting.specs.declared.Plan.{Plan}
+use Rattle.plans.specs.Plans.{inBounds, noPlan}
+use Rattle.plans.specs.declared.Plan.{Plan}
 use Rattle.records.proofs.RecordChecks.{read-below, words-inside}
 use Rattle.records.proofs.Trailers.{trailer-of}
 use Rattle.records.proofs.check_record.Statement.{statement}

@@ -9,9 +9,9 @@ use Rattle.refusals.specs.declared.Code.{Code}
 use Rattle.refusals.specs.Codes.{code, accepted, firstOf}
 use Rattle.refusals.proofs.Answers.{passes, first-answers}
 use Rattle.refusals.proofs.Orders.{rest-decides}
-use Rattle.vetting.specs.Verdict.{tableChecks}
+use Rattle.plans.specs.Plans.{tableChecks}
 use Rattle.records.specs.Records.{recordSize, writeVerdict}
-use Rattle.vetting.proofs.VerdictLaws.{table-passed}
+use Rattle.plans.proofs.TableLaws.{table-passed}
 use Rattle.records.proofs.check_writing.Statement.{statement}
 use Rattle.records.proofs.check_writing.Tie as tie
 

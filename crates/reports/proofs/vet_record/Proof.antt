@@ -11,15 +11,15 @@ use Rattle.refusals.specs.declared.Code.{Code}
 use Rattle.refusals.specs.Codes.{accepted, code, firstOf}
 use Rattle.refusals.proofs.CodeLaws.{accepted-takes}
 use Rattle.matrices.specs.Linear.{zeros}
-use Rattle.vetting.specs.declared.Plan.{Plan}
-use Rattle.vetting.specs.Plans.{usersOf, inBounds, noPlan, plannedCode, plannedPlan}
+use Rattle.plans.specs.declared.Plan.{Plan}
+use Rattle.plans.specs.Plans.{usersOf, inBounds, noPlan, plannedCode, plannedPlan}
 use Rattle.vetting.specs.Verdict.{vetChecks, verdict}
 use Rattle.records.specs.Records.{start, planRead, tableRead, readChecks, readVerdict, padded}
 use Rattle.reports.specs.Program.{programCode}
 use Rattle.refusals.proofs.Orders.{first-refuses, rest-decides}
 use Rattle.records.proofs.RecordChecks.{Readable, readable}
 use Rattle.records.proofs.Bytes.{length-words}
-use Rattle.vetting.proofs.PlanBounds.{Bounds, bounds-known, few-numbers}
+use Rattle.plans.proofs.PlanBounds.{Bounds, bounds-known, few-numbers}
 use Rattle.reports.proofs.vet_record.Statement.{statement}
 use Rattle.reports.proofs.vet_record.Tie as tie
 

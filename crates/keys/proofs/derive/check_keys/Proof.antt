@@ -1,16 +1,17 @@
 use borrow.Author.Needs.{needs}
-use borrow.Author.Tests.{ltb-true, ltb-false, le-leb, lt-leb, eq-eqb, ne-eqb, not-true, not-false}
+use borrow.Author.Tests.{eq-eqb, ne-eqb, not-true, not-false}
 use mathlib.Core.Logic.{⊎-elim}
 use mathlib.Core.Path.{_≡_, sym, _∙_}
 use mathlib.Core.Bool.{Bool, true, _&&_}
-use Prim.Native.Nat.{ℕ, _*_, _≤_}
-use lib.Dec.{leb, eqb}
+use Prim.Native.Nat.{_*_, _≤_}
+use lib.Dec.{eqb}
 use lib.ListN.{length}
 use native.Mathlib.Nat.{mul-le-mul}
 use native.Mathlib.Omega.{arith}
 use Rattle.refusals.specs.declared.Code.{Code}
 use Rattle.refusals.specs.Codes.{accepted, firstOf}
-use Rattle.vetting.specs.Plans.{usersOf}
+use Rattle.plans.specs.Plans.{usersOf, lengthFits}
+use Rattle.plans.proofs.PlanBounds.{length-known}
 use Rattle.vetting.specs.Verdict.{vetChecks}
 use Rattle.keys.specs.Keys.{keyChecks}
 use Rattle.refusals.proofs.Answers.{passes, first-answers}
@@ -42,17 +43,14 @@ decide c e = let a = c .before .before .before .before .before .before .args in 
 
 returns-2 : tie.Need-returns-2
 unfolding blocks
-returns-2 c =
-    let L : ℕ = c .before .before .before .before .before .before .before .args .length in
-    decide (c .before)
-    (⊎-elim (λ w. simp (lt-leb 1 L (w .taken))) (λ w. simp (le-leb 1 L (w .0 .left), lt-leb L 64 (ltb-true 64 L (w .1 .taken)))) (c .if2 .came))
+returns-2 c = decide (c .before .before) (simp (sym (c .before .length-fits .ensures) ∙ not-true _ (c .if2 .taken)))
 
 -- the length and the two blocks are good
-short : (c : tie.Else3) → c .before .before .before .before .before .before .before .before .args .length ≤ 64
-short c = ltb-false 64 _ (c .if3 .left)
+fits : (c : tie.Else2) → lengthFits (c .before .before .before .before .before .before .before .before .args .length) ≡ true
+fits c = sym (c .before .length-fits .ensures) ∙ not-false _ (c .if2 .left)
 
-fits : (c : tie.Else3) → (let L : ℕ = c .before .before .before .before .before .before .before .before .args .length in (leb 1 L && leb L 64) ≡ true)
-fits c = simp (le-leb _ _ (c .before .if2 .left), le-leb _ _ (short c))
+short : (c : tie.Else2) → c .before .before .before .before .before .before .before .before .args .length ≤ 64
+short c = length-known (c .before .before .before .before .before .before .before .before .args .length) (fits c) .1
 
 abbrev wholeSource : tie.Start → Bool
 wholeSource s = eqb (length (s .args .source .now)) (s .args .length * s .args .plan .rate)
@@ -60,19 +58,19 @@ wholeSource s = eqb (length (s .args .source .now)) (s .args .length * s .args .
 abbrev wholeKeys : tie.Start → Bool
 wholeKeys s = eqb (length (s .args .keys .now)) (usersOf (s .args .plan) * s .args .length)
 
-whole : (c : tie.Else5) → (let s = c .before .before .before .before .before .before .before .before .before .before .before .before in (wholeSource s && wholeKeys s) ≡ true)
-whole c = simp (eq-eqb _ _ (c .before .before .if4 .left), not-false (wholeKeys (c .before .before .before .before .before .before .before .before .before .before .before .before)) (c .if5 .left))
+whole : (c : tie.Else4) → (let s = c .before .before .before .before .before .before .before .before .before .before .before .before in (wholeSource s && wholeKeys s) ≡ true)
+whole c = simp (eq-eqb _ _ (c .before .before .if3 .left), not-false (wholeKeys (c .before .before .before .before .before .before .before .before .before .before .before .before)) (c .if4 .left))
 
-mul-if4 : tie.Need-mul-if4
-mul-if4 c =
+mul-if3 : tie.Need-mul-if3
+mul-if3 c =
     let a = c .before .before .before .before .before .before .before .before .before .args in
     omega (arith, mul-le-mul {n₁ = a .length} {m₁ = a .plan .rate} {n₂ = 64} {m₂ = 16} (short (c .before)) (known (c .before .before .before) .bounds .few-symbols))
 
-mul-if5 : tie.Need-mul-if5
-mul-if5 c = omega (arith, known (c .before .before .before .before .before) .bounds .counts .few-users)
+mul-if4 : tie.Need-mul-if4
+mul-if4 c = omega (arith, known (c .before .before .before .before .before) .bounds .counts .few-users)
 
-mul-if5-2 : tie.Need-mul-if5-2
-mul-if5-2 c =
+mul-if4-2 : tie.Need-mul-if4-2
+mul-if4-2 c =
     let a = c .before .before .before .before .before .before .before .before .before .before .before .args in
     omega (arith, mul-le-mul {n₁ = usersOf (a .plan)} {m₁ = a .length} {n₂ = 16} {m₂ = 64} (known (c .before .before .before .before .before) .bounds .counts .few-users) (short (c .before .before .before)))
 
@@ -81,19 +79,19 @@ unfolding blocks
 returns-3 c =
     let s = c .before .before .before .before .before .before .before .before .before .before in
     decide (c .before .before .before .before)
-    (⊎-elim (λ w. simp (fits (c .before .before), ne-eqb _ _ (w .taken))) (λ w. simp (fits (c .before .before), eq-eqb _ _ (w .0 .left), not-true (wholeKeys s) (w .2 .taken))) (c .if4 .came))
+    (⊎-elim (λ w. simp (fits (c .before .before), ne-eqb _ _ (w .taken))) (λ w. simp (fits (c .before .before), eq-eqb _ _ (w .0 .left), not-true (wholeKeys s) (w .2 .taken))) (c .if3 .came))
 
 returns-4 : tie.Need-returns-4
 unfolding blocks
 returns-4 c =
     decide (c .before .before .before .before .before .before .before .before)
-    (simp (fits (c .before .before .before .before .before .before), whole (c .before .before), sym (c .before .all-below .ensures) ∙ not-true _ (c .if6 .taken)))
+    (simp (fits (c .before .before .before .before .before .before), whole (c .before .before), sym (c .before .all-below .ensures) ∙ not-true _ (c .if5 .taken)))
 
 returns-5 : tie.Need-returns-5
 unfolding blocks
 returns-5 c =
     decide (c .before .before .before .before .before .before .before .before)
-    (simp (fits (c .before .before .before .before .before .before), whole (c .before .before), sym (c .before .all-below .ensures) ∙ not-false _ (c .if6 .left)))
+    (simp (fits (c .before .before .before .before .before .before), whole (c .before .before), sym (c .before .all-below .ensures) ∙ not-false _ (c .if5 .left)))
 
 pub check-keys-spec : {M : Type 1} → statement M
 check-keys-spec =
@@ -102,10 +100,11 @@ check-keys-spec =
     (search needs)
     (search needs)
     returns
+    (search needs)
     returns-2
+    mul-if3
     mul-if4
-    mul-if5
-    mul-if5-2
+    mul-if4-2
     returns-3
     (search needs)
     returns-4

@@ -6,7 +6,7 @@ use native.Mathlib.Omega.{arith}
 use lib.ListN.{length}
 use Rattle.matrices.specs.Linear.{at}
 use Rattle.secrecy.specs.Counts.{sumTo}
-use Rattle.vetting.proofs.RunningSum.{kept-none, kept-next}
+use Rattle.secrecy.proofs.RunningSum.{kept-none, kept-next}
 use Rattle.keys.proofs.derive.key_symbol.Statement.{statement}
 use Rattle.keys.proofs.derive.key_symbol.Tie as tie
 

@@ -10,7 +10,7 @@ use Rattle.secrecy.specs.Counts.{sumTo}
 use Rattle.secrecy.specs.Lists.{tab}
 use Rattle.secrecy.proofs.Sums.{sum-cong}
 use Rattle.secrecy.proofs.ListLaws.{at-tab, length-tab}
-use Rattle.vetting.proofs.Fronts.{Front, front-none, front-next, front-whole, row-fits, length-part, part-at}
+use Rattle.matrices.proofs.Fronts.{Front, front-none, front-next, front-whole, row-fits, length-part, part-at}
 use Rattle.keys.proofs.derive.user_keys.Statement.{statement}
 use Rattle.keys.proofs.derive.user_keys.Tie as tie
 

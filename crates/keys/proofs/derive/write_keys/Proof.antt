@@ -3,8 +3,8 @@ use mathlib.Core.Path.{_≡_, sym, ap, ap₂, _∙_}
 use Prim.Native.Nat.{ℕ, _+_, _-_, _*_, _≤_}
 use native.Mathlib.Omega.{arith}
 use lib.ListN.{length, take, drop}
-use Rattle.vetting.specs.Plans.{usersOf}
-use Rattle.vetting.proofs.Fronts.{Front, front-none, front-part, front-whole, row-fits, length-part}
+use Rattle.plans.specs.Plans.{usersOf}
+use Rattle.matrices.proofs.Fronts.{Front, front-none, front-part, front-whole, row-fits, length-part}
 use Rattle.keys.proofs.KeyLaws.{keyRows, keys-are, length-keys, keys-of-row}
 use Rattle.keys.proofs.derive.write_keys.Statement.{statement}
 use Rattle.keys.proofs.derive.write_keys.Tie as tie

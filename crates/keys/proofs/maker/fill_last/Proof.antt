@@ -5,7 +5,7 @@ use Prim.Native.Nat.{ℕ, _+_, _-_, _*_, _%_, _≤_}
 use native.Mathlib.Omega.{arith}
 use lib.ListN.{set}
 use Rattle.arithmetic.specs.Field.{oppositeOf}
-use Rattle.vetting.proofs.Fronts.{Front, front-next, front-whole}
+use Rattle.matrices.proofs.Fronts.{Front, front-next, front-whole}
 use Rattle.keys.proofs.MakerSteps.{withLast, last-start, last-at, column-stays}
 use Rattle.keys.proofs.maker.fill_last.Statement.{statement}
 use Rattle.keys.proofs.maker.fill_last.Tie as tie

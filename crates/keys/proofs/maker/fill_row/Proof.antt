@@ -7,7 +7,7 @@ use lib.ListN.{length, length-set}
 use Rattle.arithmetic.specs.Field.{powerOf}
 use Rattle.secrecy.specs.Lists.{tab}
 use Rattle.secrecy.proofs.ListLaws.{at-tab, length-tab}
-use Rattle.vetting.proofs.Fronts.{Front, front-none, front-next, front-whole}
+use Rattle.matrices.proofs.Fronts.{Front, front-none, front-next, front-whole}
 use Rattle.keys.proofs.maker.fill_row.Statement.{statement}
 use Rattle.keys.proofs.maker.fill_row.Tie as tie
 

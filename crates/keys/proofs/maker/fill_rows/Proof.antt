@@ -4,7 +4,7 @@ use Prim.Native.Nat.{ℕ, _+_, _-_, _*_, _≤_}
 use native.Mathlib.Omega.{arith}
 use lib.ListN.{length}
 use Rattle.secrecy.proofs.ListLaws.{length-tab}
-use Rattle.vetting.proofs.Fronts.{Front, front-none, front-part, front-whole, row-fits, length-part}
+use Rattle.matrices.proofs.Fronts.{Front, front-none, front-part, front-whole, row-fits, length-part}
 use Rattle.keys.proofs.MakerSteps.{powerRows, powers-part}
 use Rattle.keys.proofs.maker.fill_rows.Statement.{statement}
 use Rattle.keys.proofs.maker.fill_rows.Tie as tie

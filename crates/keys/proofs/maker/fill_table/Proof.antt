@@ -7,8 +7,8 @@ use lib.ListN.{length}
 use lib.Seq.{length-take-le, length-front}
 use Rattle.arithmetic.specs.Primes.{Prime}
 use Rattle.arithmetic.proofs.PrimeLaws.{true-prime, prime-pos}
-use Rattle.vetting.specs.Plans.{usersOf}
-use Rattle.vetting.proofs.PlanLaws.{Bounds, bounds-known, some-users}
+use Rattle.plans.specs.Plans.{usersOf}
+use Rattle.plans.proofs.PlanBounds.{Bounds, bounds-known, some-users}
 use Rattle.keys.proofs.MakerLaws.{made-is}
 use Rattle.keys.proofs.MakerSteps.{powers-size, last-makes}
 use Rattle.keys.proofs.maker.fill_table.Statement.{statement}

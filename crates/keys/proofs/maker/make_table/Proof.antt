@@ -10,9 +10,9 @@ use Rattle.refusals.specs.Codes.{accepted, codeOf, verdictCode, firstOf, ifAcce
 use Rattle.refusals.proofs.CodeLaws.{NoneHolds, none-holds, refused-keeps, accepted-takes}
 use Rattle.refusals.proofs.Orders.{first-refuses, none-decide}
 use Rattle.arithmetic.specs.Primes.{isPrime}
-use Rattle.vetting.specs.declared.Plan.{Plan}
-use Rattle.vetting.specs.declared.Planned.{Planned}
-use Rattle.vetting.specs.Plans.{noPlan, usersOf, inBounds, plannedCode, plannedPlan}
+use Rattle.plans.specs.declared.Plan.{Plan}
+use Rattle.plans.specs.declared.Planned.{Planned}
+use Rattle.plans.specs.Plans.{noPlan, usersOf, inBounds, plannedCode, plannedPlan}
 use Rattle.vetting.specs.Walk.{pairs}
 use Rattle.vetting.specs.Verdict.{leakCheck}
 use Rattle.keys.specs.Maker.{rateOf, planOf, madeTable, makerCode}

@@ -6,10 +6,10 @@ use Prim.Native.Nat.{ℕ, _-_, _*_}
 use native.Mathlib.Nat.{mul-le-mul}
 use native.Mathlib.Omega.{arith}
 use Rattle.arithmetic.specs.Primes.{isPrime}
-use Rattle.vetting.specs.declared.Plan.{Plan}
-use Rattle.vetting.specs.Plans.{plan, countsFit, inBounds}
+use Rattle.plans.specs.declared.Plan.{Plan}
+use Rattle.plans.specs.Plans.{plan, countsFit, inBounds}
 use Rattle.keys.specs.Maker.{rateOf}
-use Rattle.vetting.proofs.PlanLaws.{Counts, counts-known, few-numbers, bounds-known}
+use Rattle.plans.proofs.PlanBounds.{Counts, counts-known, few-numbers, bounds-known}
 use Rattle.keys.proofs.MakerLaws.{made-bounds}
 use Rattle.keys.proofs.maker.plan_for.Statement.{statement}
 use Rattle.keys.proofs.maker.plan_for.Tie as tie

@@ -3,7 +3,7 @@ use mathlib.Core.Path.{sym, subst, _∙_}
 use Prim.Native.Nat.{ℕ, _≤_}
 use lib.ListN.{length}
 use lib.Seq.{length-take-le}
-use Rattle.vetting.proofs.PlanLaws.{bounds-known, few-numbers}
+use Rattle.plans.proofs.PlanBounds.{bounds-known, few-numbers}
 use Rattle.keys.proofs.maker.write_table.Statement.{statement}
 use Rattle.keys.proofs.maker.write_table.Tie as tie
 

@@ -13,7 +13,7 @@ use Rattle.arithmetic.proofs.PrimeLaws.{true-prime}
 use Rattle.vetting.specs.Walk.{pairs}
 use Rattle.vetting.specs.Verdict.{leakCheck, verdict}
 use Rattle.keys.specs.Maker.{madeTable}
-use Rattle.vetting.proofs.PlanLaws.{bounds-known}
+use Rattle.plans.proofs.PlanBounds.{bounds-known}
 use Rattle.keys.proofs.MakerLaws.{made-verdict}
 use Rattle.keys.proofs.maker.write_vetted.Statement.{statement}
 use Rattle.keys.proofs.maker.write_vetted.Tie as tie

@@ -1,7 +1,7 @@
 use mathlib.Core.Path.{ap, _∙_}
 use mathlib.Core.Bool.{Bool}
 use borrow.Author.Needs.{needs}
-use Rattle.vetting.proofs.PlanBounds.{counts-known}
+use Rattle.plans.proofs.PlanBounds.{counts-known}
 use Rattle.rounds.specs.Ledger.{frame}
 use Rattle.rounds.specs.Rounds.{stepCode, stepped, relayRound}
 use Rattle.rounds.proofs.RelayRound.count.Statement.{statement}

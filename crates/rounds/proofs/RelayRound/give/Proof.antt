@@ -5,7 +5,7 @@ use mathlib.Core.List.{List, []}
 use lib.ListN.{take}
 use borrow.Author.Needs.{needs}
 use Rattle.refusals.specs.Codes.{firstOf, ifAccepted}
-use Rattle.vetting.proofs.PlanBounds.{counts-known}
+use Rattle.plans.proofs.PlanBounds.{counts-known}
 use Rattle.rounds.specs.Rounds.{giveChecks}
 use Rattle.rounds.proofs.RelayRound.give.Statement.{statement}
 use Rattle.rounds.proofs.RelayRound.give.Tie as tie

@@ -1,5 +1,5 @@
 use Prim.Native.Nat.{ℕ, _-_, _≤_, _<_}
-use mathlib.Core.Path.{_≡_, sym, ap, ap₂, _∙_}
+use mathlib.Core.Path.{_≡_, sym, ap, ap₂, _∙_, subst}
 use mathlib.Core.List.{List}
 use native.Mathlib.Omega.{arith}
 use lib.ListN.{take, length, set}
@@ -7,7 +7,8 @@ use lib.Seq.{getD-take}
 use borrow.Author.Needs.{needs}
 use Rattle.arithmetic.proofs.Searches.{true→T}
 use Rattle.arithmetic.proofs.PrimeLaws.{below-at}
-use Rattle.arithmetic.specs.Field.{sumOf}
+use Rattle.arithmetic.proofs.SymbolLaws.{symbol-sum}
+use Rattle.arithmetic.specs.Field.{sumOf, symbolSum}
 use Rattle.matrices.specs.Linear.{at}
 use Rattle.rounds.specs.declared.Round.{Round}
 use Rattle.rounds.specs.Machine.{withSums, addedTo}
@@ -27,22 +28,7 @@ loop-holds c =
     let l : length (r .sums) ≡ 64 = search needs in
     (omega arith, l, ap (withSums r) (added-none (r .q) (r .sums) (c .before .args .block .now) l))
 
-add-reduced-requires : tie.Need-add-reduced-requires Inv-loop μ-loop
-add-reduced-requires c κs =
-    let s = c .before .before .before .loop in
-    let a = c .before .before .before .before .before in
-    let r : Round = a .args .t1 in
-    let bl : List ℕ = a .args .block .now in
-    let h : s .p < length bl = omega (arith, c .before .before .loop-test .taken) in
-    let few : length bl ≤ 64 = a .pre .few in
-    let e : s .self ≡ withSums r (addedTo (r .q) (s .p) (r .sums) bl) = s .inv .2 in
-    let m : at (s .self .sums) (s .p) ≡ at (take (length bl) (r .sums)) (s .p) =
-    ap (λ (w : Round). at (w .sums) (s .p)) e ∙ added-at (r .q) (r .sums) bl (s .p) (omega arith) ∙ sym (getD-take (length bl) (r .sums) (s .p) 0 h) in
-    let k : s .self .q ≡ r .q = ap (λ (w : Round). w .q) e in (
-      omega (arith, m, k, below-at (r .q) (take (length bl) (r .sums)) (a .pre .positive) (true→T _ (a .pre .low)) (s .p)),
-      omega (arith, k, below-at (r .q) bl (a .pre .positive) (true→T _ (a .pre .below)) (s .p)),
-    )
-
+-- what stands in a position that is still to come is as it was, so that both numbers are symbols
 loop-again : tie.Need-loop-again Inv-loop μ-loop
 loop-again c =
     let s = c .before .before .before .before .loop in
@@ -50,11 +36,17 @@ loop-again c =
     let r : Round = a .args .t1 in
     let bl : List ℕ = a .args .block .now in
     let S : List ℕ = addedTo (r .q) (s .p) (r .sums) bl in
-    let h : s .p < length bl = omega (arith, c .before .before .before .loop-test .taken) in
+    let h : s .p < length bl = c .before .before .before .loop-test .taken in
     let few : length bl ≤ 64 = a .pre .few in
     let e : s .self ≡ withSums r S = s .inv .2 in
-    let x : c .add-reduced .result ≡ sumOf (r .q) (at S (s .p)) (at bl (s .p)) =
-    c .add-reduced .ensures ∙ ap (λ (w : Round). sumOf (w .q) (at (w .sums) (s .p)) (at bl (s .p))) e in (
+    let m : at S (s .p) ≡ at (take (length bl) (r .sums)) (s .p) =
+    added-at (r .q) (r .sums) bl (s .p) (omega arith) ∙ sym (getD-take (length bl) (r .sums) (s .p) 0 h) in
+    let low : at S (s .p) < r .q =
+    subst (λ (n : ℕ). n < r .q) (sym m) (below-at (r .q) (take (length bl) (r .sums)) (a .pre .positive) (true→T _ (a .pre .low)) (s .p)) in
+    let x : c .add-symbols .result ≡ sumOf (r .q) (at S (s .p)) (at bl (s .p)) =
+    c .add-symbols .ensures
+    ∙ ap (λ (w : Round). symbolSum (w .q) (at (w .sums) (s .p)) (at bl (s .p))) e
+    ∙ symbol-sum (r .q) (at S (s .p)) (at bl (s .p)) low (below-at (r .q) bl (a .pre .positive) (true→T _ (a .pre .below)) (s .p)) in (
       omega arith,
       s .inv .1,
       ap₂ (λ (w : Round) (y : ℕ). withSums w (set (w .sums) (s .p) y)) e x ∙ ap (withSums r) (added-next (r .q) (r .sums) bl (s .p) (omega arith) (a .pre .positive)),
@@ -80,7 +72,7 @@ add-block-spec =
     (search needs)
     (search needs)
     (search needs)
-    add-reduced-requires
+    (search needs)
     (search needs)
     (search needs)
     (search needs)

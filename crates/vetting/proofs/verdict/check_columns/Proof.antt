@@ -3,7 +3,7 @@ use mathlib.Core.Path.{_≡_, sym, _∙_}
 use Prim.Native.Nat.{ℕ, _-_, _≤_, _<_}
 use native.Mathlib.Omega.{arith}
 use Rattle.vetting.specs.Verdict.{columnSum}
-use Rattle.vetting.proofs.PlanBounds.{bounds-known}
+use Rattle.plans.proofs.PlanBounds.{bounds-known}
 use Rattle.vetting.proofs.VerdictLaws.{columns-zero, column-first, zeros-next}
 use Rattle.vetting.proofs.verdict.check_columns.Statement.{statement}
 use Rattle.vetting.proofs.verdict.check_columns.Tie as tie

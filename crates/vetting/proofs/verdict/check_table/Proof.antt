@@ -2,12 +2,13 @@ use borrow.Author.Needs.{needs}
 use borrow.Author.Tests.{not-false}
 use mathlib.Core.Path.{_≡_, _∙_}
 use mathlib.Core.List.{[]}
-use Rattle.vetting.specs.Verdict.{tableChecks, columnChecks}
+use Rattle.plans.specs.Plans.{tableChecks}
+use Rattle.vetting.specs.Verdict.{columnChecks}
 use Rattle.refusals.specs.Codes.{accepted, firstOf}
 use Rattle.refusals.proofs.Answers.{passes, first-answers}
 use Rattle.arithmetic.proofs.PrimeLaws.{prime-pos}
 use Rattle.refusals.proofs.Orders.{rest-decides}
-use Rattle.vetting.proofs.VerdictLaws.{table-passed}
+use Rattle.plans.proofs.TableLaws.{table-passed}
 use Rattle.vetting.proofs.verdict.check_table.Statement.{statement}
 use Rattle.vetting.proofs.verdict.check_table.Tie as tie
 

@@ -8,7 +8,8 @@ use Rattle.arithmetic.proofs.PrimeLaws.{prime-pos}
 use Rattle.vetting.specs.Walk.{pairs}
 use Rattle.vetting.specs.Verdict.{leakCheck, otherChecks, verdict, columnChecks}
 use Rattle.vetting.specs.Walking.{foundCode}
-use Rattle.vetting.proofs.VerdictLaws.{table-passed, columns-numbered, walk-verdict}
+use Rattle.plans.proofs.TableLaws.{table-passed}
+use Rattle.vetting.proofs.VerdictLaws.{columns-numbered, walk-verdict}
 use Rattle.vetting.proofs.verdict.vet.Statement.{statement}
 use Rattle.vetting.proofs.verdict.vet.Tie as tie
 

@@ -7,7 +7,7 @@ use Rattle.matrices.specs.Linear.{at}
 use Rattle.secrecy.specs.Counts.{sumTo}
 use Rattle.vetting.specs.Walking.{clusterSum}
 use Rattle.vetting.proofs.BaseLaws.{rows-below}
-use Rattle.vetting.proofs.RunningSum.{kept-none, kept-next}
+use Rattle.secrecy.proofs.RunningSum.{kept-none, kept-next}
 use Rattle.vetting.proofs.GatherLaws.{room}
 use borrow.Author.Needs.{needs}
 use Rattle.vetting.proofs.walk.cluster_sum.Statement.{statement}

@@ -1,6 +1,6 @@
 use mathlib.Core.Path.{ap, _∙_}
 use Rattle.vetting.specs.Walking.{walked}
-use Rattle.vetting.proofs.PlanBounds.{bounds-known}
+use Rattle.plans.proofs.PlanBounds.{bounds-known}
 use borrow.Author.Needs.{needs}
 use Rattle.vetting.proofs.walk.find_leak.Statement.{statement}
 use Rattle.vetting.proofs.walk.find_leak.Tie as tie

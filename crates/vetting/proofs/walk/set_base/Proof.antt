@@ -5,10 +5,10 @@ use native.Mathlib.Omega.{arith}
 use lib.ListN.{length}
 use Rattle.secrecy.specs.Lists.{tab, joinTo}
 use Rattle.secrecy.proofs.ListLaws.{length-tab}
-use Rattle.vetting.specs.Plans.{usersOf}
+use Rattle.plans.specs.Plans.{usersOf}
 use Rattle.vetting.specs.Walking.{clusterSum, baseTable}
-use Rattle.vetting.proofs.PlanBounds.{Bounds, bounds-known}
-use Rattle.vetting.proofs.Joins.{length-join}
+use Rattle.plans.proofs.PlanBounds.{Bounds, bounds-known}
+use Rattle.secrecy.proofs.Joins.{length-join}
 use Rattle.vetting.proofs.BaseLaws.{base-room, copy-length, both-length, both-front}
 use borrow.Author.Needs.{needs}
 use Rattle.vetting.proofs.walk.set_base.Statement.{statement}

@@ -1,0 +1,2 @@
+pub mod PlanBounds
+pub mod TableLaws

@@ -1,0 +1,61 @@
+-- What the counts of a plan satisfy, where they are within their bounds.
+use Prim.Native.Nat.{ℕ, _*_, _≤_}
+use mathlib.Core.Path.{_≡_}
+use mathlib.Core.Bool.{true, _&&_}
+use native.Mathlib.Nat.{mul-le-mul}
+use lib.Dec.{leb, leb→le}
+use Rattle.arithmetic.proofs.Searches.{T→true, true→T, T-and}
+use Rattle.plans.specs.declared.Plan.{Plan}
+use Rattle.plans.specs.Plans.{usersOf, countsFit, lengthFits, inBounds}
+
+pub record Counts (u v t : ℕ) : Type 0 where
+  pub some-clusters : 1 ≤ u
+  pub few-clusters : u ≤ 8
+  pub some-size : 1 ≤ v
+  pub few-size : v ≤ 8
+  pub few-users : u * v ≤ 16
+  pub within : t ≤ u * v
+
+pub counts-known : (u v t : ℕ) → countsFit u v t ≡ true → Counts u v t
+counts-known u v t e =
+    let (f, s) = T-and (leb 1 u && leb u 8 && leb 1 v && leb v 8 && leb (u * v) 16) (leb t (u * v)) (true→T (countsFit u v t) e) in
+    let (f₁, s₁) = T-and (leb 1 u && leb u 8 && leb 1 v && leb v 8) (leb (u * v) 16) f in
+    let (f₂, s₂) = T-and (leb 1 u && leb u 8 && leb 1 v) (leb v 8) f₁ in
+    let (f₃, s₃) = T-and (leb 1 u && leb u 8) (leb 1 v) f₂ in
+    let (f₄, s₄) = T-and (leb 1 u) (leb u 8) f₃ in
+    record {
+      some-clusters = leb→le 1 u f₄;
+      few-clusters = leb→le u 8 s₄;
+      some-size = leb→le 1 v s₃;
+      few-size = leb→le v 8 s₂;
+      few-users = leb→le (u * v) 16 s₁;
+      within = leb→le t (u * v) s;
+    }
+
+pub some-users : {u v t : ℕ} → Counts u v t → 1 ≤ u * v
+some-users {u} {v} c = mul-le-mul {n₁ = 1} {m₁ = 1} {n₂ = u} {m₂ = v} (c .some-clusters) (c .some-size)
+
+pub record Bounds (P : Plan) : Type 0 where
+  pub counts : Counts (P .clusters) (P .size) (P .limit)
+  pub some-symbols : 1 ≤ P .rate
+  pub few-symbols : P .rate ≤ 16
+
+pub bounds-known : (P : Plan) → inBounds P ≡ true → Bounds P
+bounds-known P e =
+    let (f, s) = T-and (countsFit (P .clusters) (P .size) (P .limit) && leb 1 (P .rate)) (leb (P .rate) 16) (true→T (inBounds P) e) in
+    let (f₁, s₁) = T-and (countsFit (P .clusters) (P .size) (P .limit)) (leb 1 (P .rate)) f in
+    record {
+      counts = counts-known (P .clusters) (P .size) (P .limit) (T→true (countsFit (P .clusters) (P .size) (P .limit)) f₁);
+      some-symbols = leb→le 1 (P .rate) s₁;
+      few-symbols = leb→le (P .rate) 16 s;
+    }
+
+-- a key table has at most 256 symbols
+pub few-numbers : {P : Plan} → Bounds P → usersOf P * P .rate ≤ 16 * 16
+few-numbers {P} b = mul-le-mul {n₁ = usersOf P} {m₁ = P .rate} {n₂ = 16} {m₂ = 16} (b .counts .few-users) (b .few-symbols)
+
+-- and what the length of a block satisfies
+pub length-known : (L : ℕ) → lengthFits L ≡ true → (1 ≤ L) × (L ≤ 64)
+length-known L e =
+    let (f, s) = T-and (leb 1 L) (leb L 64) (true→T (lengthFits L) e) in
+    (leb→le 1 L f, leb→le L 64 s)

@@ -1,0 +1,67 @@
+-- The plan (document 01: "The pool and its plan"): its counts, their bounds, what the equations speak of, and the checks of a key table.
+use Prim.Native.Nat.{ℕ, _*_}
+use mathlib.Core.Bool.{Bool, not, _&&_}
+use mathlib.Core.List.{List, [], _∷_}
+use lib.Dec.{leb, eqb}
+use lib.ListN.{length}
+use Rattle.refusals.specs.declared.Code.{Code}
+use Rattle.refusals.specs.Codes.{code, accepted, codeOf, firstOf, ifAccepted}
+use Rattle.arithmetic.specs.Primes.{isPrime, allBelow}
+use Rattle.secrecy.specs.Model.{Pool}
+use Rattle.plans.specs.declared.Plan.{Plan}
+use Rattle.plans.specs.declared.Planned.{Planned}
+use Rattle.plans.specs.declared.Planned.the-variants.{Made, Refused}
+
+-- the plan's clusters, sizes, rate, prime and key table
+abbrev pub poolOf : Plan → List ℕ → Pool
+poolOf P K = record { clusters = P .clusters; size = P .size; rate = P .rate; q = P .q; table = K }
+
+abbrev pub usersOf : Plan → ℕ
+usersOf P = P .clusters * P .size
+
+-- U and V from 1 to 8, U × V at most 16, T from 0 to U × V
+abbrev pub countsFit : ℕ → ℕ → ℕ → Bool
+countsFit u v t = leb 1 u && leb u 8 && leb 1 v && leb v 8 && leb (u * v) 16 && leb t (u * v)
+
+-- and R from 1 to 16
+abbrev pub inBounds : Plan → Bool
+inBounds P = countsFit (P .clusters) (P .size) (P .limit) && leb 1 (P .rate) && leb (P .rate) 16
+
+-- a block's length: L from 1 to 64
+abbrev pub lengthFits : ℕ → Bool
+lengthFits L = leb 1 L && leb L 64
+
+-- "a constructor without self refuses 1, then 2"
+abbrev pub planChecks : Plan → List (Bool × Code)
+planChecks P = (not (inBounds P), code 1) ∷ (not (isPrime (P .q)), code 2) ∷ []
+
+abbrev pub plan : ℕ → ℕ → ℕ → ℕ → ℕ → Plan
+plan clusters size limit rate q = record { clusters = clusters; size = size; limit = limit; rate = rate; q = q }
+
+abbrev pub noPlan : Plan
+noPlan = plan 0 0 0 0 0
+
+abbrev pub planCode : Plan → Code
+planCode P = firstOf (planChecks P)
+
+-- the plan, where nothing is refused
+abbrev pub planMade : Plan → Plan
+planMade P = ifAccepted (planCode P) P noPlan
+
+-- what the constructor's answer says: its refusal, and its plan, which is nothing but zeros where it refuses
+abbrev pub plannedCode : Planned → Code
+plannedCode (Made P) = accepted
+plannedCode (Refused r) = codeOf r
+
+abbrev pub plannedPlan : Planned → Plan
+plannedPlan (Made P) = P
+plannedPlan (Refused r) = noPlan
+
+-- a plan and its key table: 1, 4, 2, 3
+abbrev pub tableChecks : Plan → List ℕ → List (Bool × Code)
+tableChecks P K =
+    (not (inBounds P), code 1)
+    ∷ (not (eqb (length K) (usersOf P * P .rate)), code 4)
+    ∷ (not (isPrime (P .q)), code 2)
+    ∷ (not (allBelow (P .q) K), code 3)
+    ∷ []

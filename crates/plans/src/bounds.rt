@@ -1,0 +1,90 @@
+// The bounds of a plan and of a block, and the plan's constructor.
+ghost use mathlib.Core.Path.{_≡_};
+ghost use Rattle.plans.specs.Plans.{plan, planCode, planMade, plannedCode, plannedPlan, countsFit, lengthFits, inBounds};
+use crate::Plan;
+use crate::Planned;
+use arithmetic::Symbol;
+use arithmetic::is_prime;
+use refusals::Refusal;
+
+// Whether U, V and T are within their bounds.
+pub fn counts_fit(clusters: usize, size: usize, limit: usize) -> bool
+    ensures { λ r. ⌜ r ≡ countsFit clusters size limit ⌝ }
+{
+    if clusters < 1 {
+        return false;
+    }
+    if clusters > Plan::MAX_CLUSTERS {
+        return false;
+    }
+    if size < 1 {
+        return false;
+    }
+    if size > Plan::MAX_SIZE {
+        return false;
+    }
+    let users = clusters * size;
+    if users > Plan::MAX_USERS {
+        return false;
+    }
+    limit <= users
+}
+
+// Whether a block may have this length.
+pub fn length_fits(length: usize) -> bool
+    ensures { λ r. ⌜ r ≡ lengthFits length ⌝ }
+{
+    if length < 1 {
+        return false;
+    }
+    length <= Plan::MAX_LENGTH
+}
+
+impl Plan {
+    pub const MAX_CLUSTERS: usize = 8;
+
+    pub const MAX_SIZE: usize = 8;
+
+    pub const MAX_USERS: usize = 16;
+
+    pub const MAX_RATE: usize = 16;
+
+    // The longest block.
+    pub const MAX_LENGTH: usize = 64;
+
+    pub const MAX_Q: Symbol = 65521;
+
+    // Whether the counts are within their bounds.
+    pub fn in_bounds(self) -> bool
+        ensures { λ r. ⌜ r ≡ inBounds self ⌝ }
+    {
+        if !counts_fit(self.clusters, self.size, self.limit) {
+            return false;
+        }
+        if self.rate < 1 {
+            return false;
+        }
+        self.rate <= Plan::MAX_RATE
+    }
+
+    // The plan with these counts, where they are within their bounds and q is a prime.
+    pub fn new(clusters: usize, size: usize, limit: usize, rate: usize, q: Symbol) -> Planned
+        ensures code { λ r. ⌜ plannedCode r ≡ planCode (plan clusters size limit rate q) ⌝ }
+        ensures plan { λ r. ⌜ plannedPlan r ≡ planMade (plan clusters size limit rate q) ⌝ }
+    {
+        let made = Plan {
+            clusters,
+            size,
+            limit,
+            rate,
+            q,
+        };
+        if !made.in_bounds() {
+            return Planned::Refused(Refusal::OutOfBounds);
+        }
+        if !is_prime(q) {
+            return Planned::Refused(Refusal::NotPrime);
+        }
+        Planned::Made(made)
+    }
+}

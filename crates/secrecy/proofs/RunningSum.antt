@@ -1,0 +1,22 @@
+-- A sum that is kept modulo q while its summands are added.
+use Prim.Native.Nat.{ℕ, _+_, _%_, _<_}
+use mathlib.Core.Path.{_≡_, sym, ap, ap₂, _∙_}
+use native.Mathlib.Nat.{zero-mod}
+use native.Mathlib.Numerals.{add-one}
+use Rattle.arithmetic.specs.Field.{residue}
+use Rattle.arithmetic.proofs.Congruence.{c-refl, c-add, of-rem, to-mod, residue-mod}
+use Rattle.secrecy.specs.Counts.{sumTo}
+
+module _ (q : ℕ) (f : ℕ → ℕ) where
+  pub kept-none : 0 ≡ sumTo 0 f % q
+  unfolding sumTo
+  kept-none = sym (zero-mod q)
+
+  -- s is what is kept of the first k, and x the next
+  pub kept-next : (k s x : ℕ) → 0 < q → s ≡ sumTo k f % q → x ≡ f k → residue q (s + x) ≡ sumTo (k + 1) f % q
+  unfolding sumTo
+  kept-next k s x h e p =
+      residue-mod q (s + x) h
+      ∙ ap₂ (λ (a b : ℕ). (a + b) % q) e p
+      ∙ to-mod (c-add (of-rem q (sumTo k f)) c-refl)
+      ∙ ap (λ (n : ℕ). sumTo n f % q) (sym (add-one k))
