@@ -13,6 +13,18 @@ use borrow.Author.Tests.{eq-eqb, ne-eqb, lt-ltb, le-leb}
 use Rattle.arithmetic.specs.Field.{oppositeOf, productOf, mulAddOf, inverseOf}
 use Rattle.matrices.specs.Tables.{rowOf, pivotOf, scaled, fused, cleared, pivotRow, eachRow, hasPivot, clearedBy, eliminatedFrom, reducedFrom, pivotsFrom}
 
+-- ---- the next place of a loop over n places
+
+pub within : {k n : ℕ} → k < n → k + 1 ≤ n
+within h = omega arith
+
+pub less-left : {k n : ℕ} → k < n → n - (k + 1) < n - k
+less-left h = omega arith
+
+-- k is a place of another list too, as long as the one that it is a place of
+pub place-of : {k m n : ℕ} → k < m → m ≡ n → k < n
+place-of h e = omega arith
+
 -- ---- the pivot
 
 pub pivot-miss : (r : List ℕ) (k : ℕ) → k < length r → getD r k 0 ≡ 0 → pivotOf (drop k r) ≡ suc (pivotOf (drop (suc k) r))

@@ -2,7 +2,6 @@ use borrow.Author.Tests.{le-leb, lt-leb, eq-eqb, ne-eqb, not-true, not-false}
 use mathlib.Core.Path.{sym, _∙_}
 use native.Mathlib.Omega.{arith}
 use Rattle.matrices.proofs.Steps.{few-numbers}
-use borrow.Author.Needs.{needs}
 use Rattle.matrices.proofs.check_rank.Statement.{statement}
 use Rattle.matrices.proofs.check_rank.Tie as tie
 
@@ -35,8 +34,8 @@ check-rank-spec =
     returns-2
     mul-if3
     returns-3
-    (search needs)
+    (λ c κs. tt)
     returns-4
-    (search needs)
+    (λ c κs. tt)
     returns-5
     returns-6)

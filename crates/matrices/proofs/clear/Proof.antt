@@ -1,4 +1,4 @@
-use borrow.Author.Needs.{needs}
+use native.Mathlib.Omega.{arith}
 use borrow.Author.Tests.{eq-eqb, ne-eqb}
 use mathlib.Core.Path.{ap, _∙_}
 use Prim.Native.Nat.{ℕ}
@@ -23,4 +23,11 @@ returns-2 c =
 pub clear-spec : {M : Type 1} → statement M
 clear-spec =
     tie.close
-    (tie.spec (search needs) (search needs) returns (search needs) (search needs) (search needs) returns-2)
+    (tie.spec
+    (λ c. omega arith)
+    (λ c. c .before .before .before .pre .1)
+    returns
+    (λ c κs. tt)
+    (λ c κs. c .before .before .before .before .before .before .pre .0)
+    (λ c. c .before .row .given)
+    returns-2)

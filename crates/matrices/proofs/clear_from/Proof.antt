@@ -1,12 +1,12 @@
 use mathlib.Core.Path.{sym, ap, ap₂, _∙_}
 use mathlib.Core.List.{List}
 use Prim.Native.Nat.{ℕ, _+_, _-_, _*_, _≤_}
+use native.Mathlib.Nat.{le-refl, le-add-right, add-sub-cancel-left}
 use native.Mathlib.Omega.{arith}
 use lib.ListN.{length, take, drop}
 use lib.Seq.{length-take-le}
 use Rattle.matrices.specs.Tables.{rowOf, cleared, pivotRow, eachRow}
 use Rattle.matrices.proofs.Steps.{row-fits, rows-fit, rest-size, length-row, rest-whole, rest-put, front-length, front-room, front-row}
-use borrow.Author.Needs.{needs}
 use Rattle.matrices.proofs.clear_from.Statement.{statement}
 use Rattle.matrices.proofs.clear_from.Tie as tie
 
@@ -44,7 +44,7 @@ slice-aggregate-scale c = sym (length-take-le (c .before .before .before .before
 scale-requires : tie.Need-scale-requires
 scale-requires c κs =
     let a = c .before .before .before .before .before .before .args in
-    length-row (a .cols) (a .i) (a .i * a .cols + a .cols - a .i * a .cols) (a .table .now) (omega arith) (fits (c .before .before .before .before .before .before)) ∙ sym (length-take-le (a .cols) _ (c .before .before .before .before .before .before .pre .1))
+    length-row (a .cols) (a .i) (a .i * a .cols + a .cols - a .i * a .cols) (a .table .now) (add-sub-cancel-left _ _) (fits (c .before .before .before .before .before .before)) ∙ sym (length-take-le (a .cols) _ (c .before .before .before .before .before .before .pre .1))
 
 mul-start : tie.Need-mul-start
 mul-start c = omega (arith, before-fits (c .before .before .before .before .before .before .before .before))
@@ -61,12 +61,12 @@ part-clear-rows-start c = before-fits (c .before .before .before .before .before
 array-share-prefix-s : tie.Need-array-share-prefix-s
 array-share-prefix-s c =
     let a = c .before .before .before .before .before .before .before .before .before .args in
-    front-room (a .q) (a .cols) (a .i) (a .i * a .cols + a .cols - a .i * a .cols) _ (a .table .now) (c .before .before .scale .last .1 .1 .1 .0) _ (omega arith) (fits (c .before .before .before .before .before .before .before .before .before)) (c .before .before .scale .ensures)
+    front-room (a .q) (a .cols) (a .i) (a .i * a .cols + a .cols - a .i * a .cols) _ (a .table .now) (c .before .before .scale .last .1 .1 .1 .0) _ (add-sub-cancel-left _ _) (fits (c .before .before .before .before .before .before .before .before .before)) (c .before .before .scale .ensures)
 
 slice-aggregate-clear-rows : tie.Need-slice-aggregate-clear-rows
 slice-aggregate-clear-rows c =
     let a = c .before .before .before .before .before .before .before .before .before .before .args in
-    sym (front-length (a .q) (a .cols) (a .i) (a .i * a .cols + a .cols - a .i * a .cols) _ (a .table .now) (c .before .before .before .scale .last .1 .1 .1 .0) _ (omega arith) (fits (c .before .before .before .before .before .before .before .before .before .before)) (c .before .before .before .scale .ensures))
+    sym (front-length (a .q) (a .cols) (a .i) (a .i * a .cols + a .cols - a .i * a .cols) _ (a .table .now) (c .before .before .before .scale .last .1 .1 .1 .0) _ (add-sub-cancel-left _ _) (fits (c .before .before .before .before .before .before .before .before .before .before)) (c .before .before .before .scale .ensures))
 
 clear-rows-requires : tie.Need-clear-rows-requires
 clear-rows-requires c κs =
@@ -74,7 +74,7 @@ clear-rows-requires c κs =
     let d = c .before .before .before .before .before .before .before .before .before .before .pre in (
       rest-size (a .rows) (a .cols) (a .from) (a .table .now) (d .2) (d .0) ∙ sym (ap length (rest-whole (a .from * a .cols) (a .table .now))),
       d .4,
-      front-length (a .q) (a .cols) (a .i) (a .i * a .cols + a .cols - a .i * a .cols) _ (a .table .now) (c .before .before .before .scale .last .1 .1 .1 .0) _ (omega arith) (fits (c .before .before .before .before .before .before .before .before .before .before)) (c .before .before .before .scale .ensures),
+      front-length (a .q) (a .cols) (a .i) (a .i * a .cols + a .cols - a .i * a .cols) _ (a .table .now) (c .before .before .before .scale .last .1 .1 .1 .0) _ (add-sub-cancel-left _ _) (fits (c .before .before .before .before .before .before .before .before .before .before)) (c .before .before .before .scale .ensures),
     )
 
 returns : tie.Need-returns
@@ -84,7 +84,7 @@ returns c =
     rest-put (a .from * a .cols) (a .table .now) _ _
     (c .before .before .clear-rows .ensures
     ∙ ap (λ (s : List ℕ). eachRow (cleared (a .q) (a .p) s) (a .rows - a .from) (a .cols) (take (length (a .table .now) - a .from * a .cols) (drop (a .from * a .cols) (a .table .now))))
-    (front-row (a .q) (a .cols) (a .i) (a .i * a .cols + a .cols - a .i * a .cols) _ (a .table .now) (c .before .before .before .before .before .before .scale .last .1 .1 .1 .0) _ (omega arith) (fits (c .before .before .before .before .before .before .before .before .before .before .before .before .before)) (c .before .before .before .before .before .before .scale .ensures) (a .p) (d .4) (d .5) (c .before .before .before .before .before .before .before .before .before .before .inverse-mod .ensures))
+    (front-row (a .q) (a .cols) (a .i) (a .i * a .cols + a .cols - a .i * a .cols) _ (a .table .now) (c .before .before .before .before .before .before .scale .last .1 .1 .1 .0) _ (add-sub-cancel-left _ _) (fits (c .before .before .before .before .before .before .before .before .before .before .before .before .before)) (c .before .before .before .before .before .before .scale .ensures) (a .p) (d .4) (d .5) (c .before .before .before .before .before .before .before .before .before .before .inverse-mod .ensures))
     ∙ ap₂ (λ (p : ℕ) (X : List ℕ). eachRow (cleared (a .q) p (pivotRow (a .q) (rowOf (a .cols) (a .table .now) (a .i)))) (a .rows - a .from) (a .cols) X) (d .5) (rest-whole (a .from * a .cols) (a .table .now)))
 
 pub clear-from-spec : {M : Type 1} → statement M
@@ -96,22 +96,22 @@ clear-from-spec =
     add-inverse-mod
     mul-inverse-mod
     slice-read-inverse-mod
-    (search needs)
+    (λ c κs. tt)
     mul-scale
-    (search needs)
-    (search needs)
+    (λ c. le-add-right _ _)
+    (λ c. le-add-right _ _)
     part-scale-end
-    (search needs)
+    (λ c. c .before .before .before .before .before .pre .1)
     slice-aggregate-scale
     scale-requires
     mul-start
-    (search needs)
+    (λ c. c .before .before .before .before .before .before .before .before .pre .2)
     mul-clear-rows
     sub-clear-rows-2
     part-clear-rows-start
-    (search needs)
+    (λ c. le-refl _)
     array-share-prefix-s
     slice-aggregate-clear-rows
     clear-rows-requires
-    (search needs)
+    (λ c. c .before .table2 .given .1)
     returns)

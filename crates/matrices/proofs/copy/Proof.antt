@@ -1,5 +1,4 @@
 use borrow.Author.Tests.{eq-eqb, ne-eqb}
-use borrow.Author.Needs.{needs}
 use Rattle.matrices.proofs.copy.Statement.{statement}
 use Rattle.matrices.proofs.copy.Tie as tie
 
@@ -10,4 +9,4 @@ returns-2 : tie.Need-returns-2
 returns-2 c = simp (ne-eqb _ _ (c .if1 .left))
 
 pub copy-spec : {M : Type 1} → statement M
-copy-spec = tie.close (tie.spec (search needs) (search needs) returns returns-2)
+copy-spec = tie.close (tie.spec (λ c κs. c .before .if1 .taken) (λ c. c .before .to .given) returns returns-2)

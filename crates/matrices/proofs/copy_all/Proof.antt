@@ -1,11 +1,10 @@
 -- The invariant: the fronts are the same.
-use borrow.Author.Needs.{needs}
 use mathlib.Core.Path.{_≡_, refl, sym, _∙_}
 use mathlib.Core.List.{List}
-use Prim.Native.Nat.{ℕ, _-_, _≤_, _<_}
+use Prim.Native.Nat.{ℕ, _-_, _≤_, _<_, zero-le}
 use native.Mathlib.Omega.{arith}
 use lib.ListN.{length, take, length-set}
-use Rattle.matrices.proofs.Steps.{copy-next, copy-done}
+use Rattle.matrices.proofs.Steps.{within, less-left, place-of, copy-next, copy-done}
 use Rattle.matrices.proofs.copy_all.Statement.{statement}
 use Rattle.matrices.proofs.copy_all.Tie as tie
 
@@ -16,14 +15,14 @@ abbrev μ-loop : tie.MeasureT-loop
 μ-loop from to₀ j₀ to j = length from - j
 
 loop-holds : tie.Need-loop-holds Inv-loop μ-loop
-loop-holds c = (omega arith, sym (c .pre), refl)
+loop-holds c = (zero-le, sym (c .pre), refl)
 
 loop-again : tie.Need-loop-again Inv-loop μ-loop
 loop-again c =
     let s = c .before .before .loop in
     let f : List ℕ = c .before .before .before .args .from .now in
     let h : s .j < length f = c .before .loop-test .taken in
-    (omega arith, length-set (s .to) (s .j) _ ∙ s .inv .1, copy-next f (s .to) (s .j) h (s .inv .1) (s .inv .2))
+    (within h, length-set (s .to) (s .j) _ ∙ s .inv .1, copy-next f (s .to) (s .j) h (s .inv .1) (s .inv .2))
 
 same-length : tie.Need-same-length Inv-loop μ-loop
 same-length c = c .before .loop .inv .1 ∙ c .before .before .pre
@@ -38,12 +37,12 @@ copy-all-spec =
     Inv-loop
     μ-loop
     loop-holds
-    (search needs)
-    (search needs)
-    (search needs)
-    (search needs)
-    (search needs)
-    (search needs)
+    (λ c. omega arith)
+    (λ c. c .before .loop-test .taken)
+    (λ c. omega arith)
+    (λ c. place-of (c .before .loop-test .taken) (sym (c .before .before .loop .inv .1)))
+    (λ c. omega arith)
+    (λ c. less-left (c .before .loop-test .taken))
     loop-again
     same-length
     returns)

@@ -1,10 +1,10 @@
 use mathlib.Core.Path.{sym, ap, _∙_, subst}
 use Prim.Native.Nat.{ℕ, _*_, _≤_}
+use native.Mathlib.Omega.{arith}
 use lib.ListN.{length}
 use lib.Seq.{length-take-le}
 use Rattle.matrices.specs.Tables.{pivotsFrom}
 use Rattle.matrices.proofs.Steps.{few-numbers, copied-size, copied-front}
-use borrow.Author.Needs.{needs}
 use Rattle.matrices.proofs.count_in_copy.Statement.{statement}
 use Rattle.matrices.proofs.count_in_copy.Tie as tie
 
@@ -52,7 +52,7 @@ pub count-in-copy-spec : {M : Type 1} → statement M
 count-in-copy-spec =
     tie.close
     (tie.spec
-    (search needs)
+    (λ c. omega arith)
     array-borrow-prefix-t
     slice-aggregate-copy-all
     copy-all-requires

@@ -1,7 +1,7 @@
 use borrow.Author.Tests.{le-leb, lt-leb, le-ltb, eq-eqb, ne-eqb}
+use Prim.Native.Nat.{zero-le}
 use native.Mathlib.Omega.{arith}
 use Rattle.matrices.proofs.Steps.{few-numbers, no-pivot}
-use borrow.Author.Needs.{needs}
 use Rattle.matrices.proofs.eliminate.Statement.{statement}
 use Rattle.matrices.proofs.eliminate.Tie as tie
 
@@ -39,6 +39,6 @@ eliminate-spec =
     mul-if3
     returns-3
     returns-4
-    (search needs)
-    (search needs)
-    (λ c. search needs))
+    (λ c κs. (c .before .before .before .before .if1 .left, c .before .before .before .if2 .left, c .before .before .if3 .left, zero-le, c .before .if4 .left))
+    (λ c. c .before .table .given)
+    (λ c. c .before .before .eliminate-from .ensures))

@@ -1,13 +1,13 @@
 use borrow.Author.Tests.{lt-ltb, le-ltb}
-use mathlib.Core.Path.{_≡_, sym, ap, _∙_, subst}
+use mathlib.Core.Path.{_≡_, refl, sym, ap, _∙_, subst}
 use mathlib.Core.Bool.{true}
 use Prim.Native.Nat.{ℕ, _+_, _-_, _*_, _≤_, _<_}
+use native.Mathlib.Nat.{le-add-right, add-sub-cancel-left}
 use native.Mathlib.Omega.{arith}
 use lib.Dec.{ltb}
 use lib.ListN.{length, take, drop}
 use Rattle.matrices.specs.Tables.{rowOf, pivotOf, hasPivot}
 use Rattle.matrices.proofs.Steps.{row-fits, pivot-is, no-pivot, some-pivot, none-left}
-use borrow.Author.Needs.{needs}
 use Rattle.matrices.proofs.eliminate_from.Statement.{statement}
 use Rattle.matrices.proofs.eliminate_from.Tie as tie
 
@@ -22,7 +22,7 @@ is-pivot s = pivot-is 0 (s .args .rows) (s .args .cols) (s .args .i) (s .args .t
 found : (s : tie.Start) {p : ℕ} → (let a = s .args in p ≡ pivotOf (take (a .i * a .cols + a .cols - a .i * a .cols) (drop (a .i * a .cols) (a .table .now))) → p ≡ pivotOf (rowOf (a .cols) (a .table .now) (a .i)))
 found s e =
     let a = s .args in
-    let k : a .i * a .cols + a .cols - a .i * a .cols ≡ a .cols = omega arith in
+    let k : a .i * a .cols + a .cols - a .i * a .cols ≡ a .cols = add-sub-cancel-left _ _ in
     e ∙ ap (λ (n : ℕ). pivotOf (take n (drop (a .i * a .cols) (a .table .now)))) k
 
 mul-b : tie.Need-mul-b
@@ -71,14 +71,14 @@ eliminate-from-spec =
     mul-b
     add-e
     mul-pivot
-    (search needs)
-    (search needs)
+    (λ c. le-add-right _ _)
+    (λ c. le-add-right _ _)
     part-pivot-end
-    (search needs)
-    (search needs)
+    (λ c κs. tt)
+    (λ c. refl)
     returns
-    (search needs)
+    (λ c. refl)
     returns-2
     clear-from-requires
-    (search needs)
+    (λ c. c .before .table2 .given)
     returns-3)

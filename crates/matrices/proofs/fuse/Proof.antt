@@ -1,13 +1,12 @@
 -- The invariant: what is written and the sum of the rests are the sum of the rows.
-use borrow.Author.Needs.{needs}
 use mathlib.Core.Path.{_≡_, refl, sym, ap, _∙_}
 use mathlib.Core.List.{List, _++_}
-use Prim.Native.Nat.{ℕ, _+_, _-_, _≤_, _<_}
+use Prim.Native.Nat.{ℕ, _+_, _-_, _≤_, _<_, zero-le}
 use native.Mathlib.Omega.{arith}
 use lib.ListN.{length, getD, take, drop, set, length-set}
 use Rattle.arithmetic.specs.Field.{mulAddOf}
 use Rattle.matrices.specs.Tables.{fused}
-use Rattle.matrices.proofs.Steps.{full, fuse-next, fuse-end}
+use Rattle.matrices.proofs.Steps.{within, less-left, place-of, full, fuse-next, fuse-end}
 use Rattle.matrices.proofs.fuse.Statement.{statement}
 use Rattle.matrices.proofs.fuse.Tie as tie
 
@@ -18,23 +17,23 @@ abbrev μ-loop : tie.MeasureT-loop
 μ-loop q m row₀ s k₀ row k = length row - k
 
 loop-holds : tie.Need-loop-holds Inv-loop μ-loop
-loop-holds c = (omega arith, refl, refl)
+loop-holds c = (zero-le, refl, refl)
 
 loop-less : tie.Need-loop-less Inv-loop μ-loop
 loop-less c =
     let s = c .before .before .before .before .loop in
-    omega (arith, length-set (s .row) (s .k) (c .mul-add-mod .result), c .before .before .before .loop-test .taken)
+    rw (length-set (s .row) (s .k) (c .mul-add-mod .result)) (less-left (c .before .before .before .loop-test .taken))
 
 loop-again : tie.Need-loop-again Inv-loop μ-loop
 loop-again c =
     let s = c .before .before .before .before .loop in
     let a = c .before .before .before .before .before .before .before .args in
     let h : s .k < length (s .row) = c .before .before .before .loop-test .taken in
-    let l : s .k < length (a .s .now) = omega (arith, s .inv .1, c .before .before .before .before .before .before .before .pre) in
+    let l : s .k < length (a .s .now) = place-of h (s .inv .1 ∙ c .before .before .before .before .before .before .before .pre) in
     let v : ℕ = mulAddOf (a .q) (getD (s .row) (s .k) 0) (a .m) (getD (a .s .now) (s .k) 0) in
     let n : ℕ = c .mul-add-mod .result in
     let e : n ≡ v = c .mul-add-mod .ensures in (
-      omega (arith, length-set (s .row) (s .k) n),
+      rw (length-set (s .row) (s .k) n) (within h),
       length-set (s .row) (s .k) n ∙ s .inv .1,
       ap (λ (x : ℕ). take (s .k + 1) (set (s .row) (s .k) x) ++ fused (a .q) (a .m) (drop (s .k + 1) (set (s .row) (s .k) x)) (drop (s .k + 1) (a .s .now))) e
           ∙ fuse-next (a .q) (a .m) (s .row) (a .s .now) (fused (a .q) (a .m) (a .row .now) (a .s .now)) (s .k) h l (s .inv .2),
@@ -57,14 +56,14 @@ fuse-spec =
     Inv-loop
     μ-loop
     loop-holds
-    (search needs)
-    (search needs)
-    (search needs)
-    (search needs)
-    (search needs)
-    (search needs)
-    (search needs)
-    (search needs)
+    (λ c. omega arith)
+    (λ c. c .before .loop-test .taken)
+    (λ c. omega arith)
+    (λ c. place-of (c .before .before .loop-test .taken) (c .before .before .before .loop .inv .1 ∙ c .before .before .before .before .before .before .pre))
+    (λ c κs. tt)
+    (λ c. omega arith)
+    (λ c. c .before .before .before .loop-test .taken)
+    (λ c. omega arith)
     loop-less
     loop-again
     same-length

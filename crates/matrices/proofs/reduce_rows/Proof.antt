@@ -5,7 +5,6 @@ use Prim.Native.Nat.{ℕ}
 use native.Mathlib.Omega.{arith}
 use Rattle.matrices.specs.Tables.{hasPivot}
 use Rattle.matrices.proofs.Steps.{few-numbers, unshaped-count, unshaped-reduced}
-use borrow.Author.Needs.{needs}
 use Rattle.matrices.proofs.reduce_rows.Statement.{statement}
 use Rattle.matrices.proofs.reduce_rows.Tie as tie
 
@@ -34,4 +33,11 @@ returns-3 c =
 pub reduce-rows-spec : {M : Type 1} → statement M
 reduce-rows-spec =
     tie.close
-    (tie.spec returns returns-2 mul-if3 returns-3 (search needs) (search needs) (λ c. search needs))
+    (tie.spec
+    returns
+    returns-2
+    mul-if3
+    returns-3
+    (λ c κs. (c .before .before .before .if1 .left, c .before .before .if2 .left, c .before .if3 .left))
+    (λ c. c .before .table .given)
+    (λ c. c .before .before .count-pivots .ensures))

@@ -1,12 +1,11 @@
 -- The invariant: what is written and the multiple of the rest are the multiple of the row.
-use borrow.Author.Needs.{needs}
 use mathlib.Core.Path.{_≡_, refl, sym, ap, _∙_}
 use mathlib.Core.List.{List, _∷_, _++_}
-use Prim.Native.Nat.{ℕ, _+_, _-_, _≤_, _<_}
+use Prim.Native.Nat.{ℕ, _+_, _-_, _≤_, _<_, zero-le}
 use native.Mathlib.Omega.{arith}
 use lib.ListN.{length, take, drop, length-set}
 use Rattle.matrices.specs.Tables.{scaled}
-use Rattle.matrices.proofs.Steps.{filled, full, scale-step, scale-end}
+use Rattle.matrices.proofs.Steps.{within, less-left, place-of, filled, full, scale-step, scale-end}
 use Rattle.matrices.proofs.scale.Statement.{statement}
 use Rattle.matrices.proofs.scale.Tie as tie
 
@@ -17,18 +16,19 @@ abbrev μ-loop : tie.MeasureT-loop
 μ-loop q c row out₀ k₀ out k = length row - k
 
 loop-holds : tie.Need-loop-holds Inv-loop μ-loop
-loop-holds c = (omega arith, sym (c .before .before .pre), refl)
+loop-holds c = (zero-le, sym (c .before .before .pre), refl)
 
 loop-again : tie.Need-loop-again Inv-loop μ-loop
 loop-again c =
     let s = c .before .before .before .loop in
     let a = c .before .before .before .before .before .before .args in
-    let b : s .k < length (s .out) = omega (arith, s .inv .1) in (
-      omega arith,
+    let h : s .k < length (a .row .now) = c .before .before .loop-test .taken in
+    let b : s .k < length (s .out) = place-of h (sym (s .inv .1)) in (
+      within h,
       length-set (s .out) (s .k) (c .mul-mod .result) ∙ s .inv .1,
       filled (s .out) (scaled (a .q) (a .c) (drop (s .k + 1) (a .row .now))) (scaled (a .q) (a .c) (a .row .now)) (s .k) (c .mul-mod .result) b
           (ap (λ (v : ℕ). take (s .k) (s .out) ++ (v ∷ scaled (a .q) (a .c) (drop (s .k + 1) (a .row .now)))) (c .mul-mod .ensures)
-          ∙ ap (λ (x : List ℕ). take (s .k) (s .out) ++ x) (sym (scale-step (a .q) (a .c) (a .row .now) (s .k) (c .before .before .loop-test .taken)))
+          ∙ ap (λ (x : List ℕ). take (s .k) (s .out) ++ x) (sym (scale-step (a .q) (a .c) (a .row .now) (s .k) h))
           ∙ s .inv .2),
     )
 
@@ -39,7 +39,7 @@ returns : tie.Need-returns Inv-loop μ-loop
 returns c =
     let s = c .before .loop in
     let a = c .before .before .before .before .args in
-    full (s .out) (scaled (a .q) (a .c) (a .row .now)) (s .k) (omega (arith, s .inv .1, c .loop-test .left))
+    full (s .out) (scaled (a .q) (a .c) (a .row .now)) (s .k) (rw (s .inv .1) (c .loop-test .left))
     (ap (λ (x : List ℕ). take (s .k) (s .out) ++ x) (sym (scale-end (a .q) (a .c) (a .row .now) (s .k) (c .loop-test .left))) ∙ s .inv .2)
 
 pub scale-spec : {M : Type 1} → statement M
@@ -49,13 +49,13 @@ scale-spec =
     Inv-loop
     μ-loop
     loop-holds
-    (search needs)
-    (search needs)
-    (search needs)
-    (search needs)
-    (search needs)
-    (search needs)
-    (search needs)
+    (λ c. omega arith)
+    (λ c. c .before .loop-test .taken)
+    (λ c κs. tt)
+    (λ c. omega arith)
+    (λ c. place-of (c .before .before .loop-test .taken) (sym (c .before .before .before .loop .inv .1)))
+    (λ c. omega arith)
+    (λ c. less-left (c .before .before .loop-test .taken))
     loop-again
     same-length
     returns)
