@@ -1,39 +1,29 @@
-// What is refused, by the paper's orders, from the last fault to the first: a later line overrules the ones before it.
-use crate::book::all_named;
-use crate::book::is_named;
-use crate::shapes::Shape;
-use crate::shapes::senders;
-use crate::steps::Frame;
-use crate::steps::Held;
+// What is refused, by the paper's orders, from the last fault to the first.
+use crate::numbers::over;
 use arithmetic::Symbol;
+use rounds::RelayRound;
+use rounds::Round;
 use std::num::wrapping_add_usize;
+use std::num::wrapping_sub_usize;
 use testing::at;
+use testing::count_large;
+use testing::power;
 use testing::product;
+use testing::quotient;
 use testing::wide;
 
-fn over(fault: bool, number: usize, otherwise: usize) -> usize {
-    if fault { number } else { otherwise }
+// How many may report: relays to the server, users to a relay.
+pub fn senders(server: bool, round: Round) -> usize {
+    over(server, round.clusters, round.size)
 }
 
-fn is_outside(a: usize, first: usize, last: usize) -> bool {
-    if a < first {
-        return true;
-    }
-    a > last
+// Whether a is none of 1 to n. One less than 0 is the largest number.
+pub fn is_outside(a: usize, n: usize) -> bool {
+    wrapping_sub_usize(a, 1) >= n
 }
 
-fn bad_counts(clusters: usize, size: usize) -> bool {
-    if is_outside(clusters, 1, 8) {
-        return true;
-    }
-    if is_outside(size, 1, 8) {
-        return true;
-    }
-    is_outside(product(clusters, size), 1, 16)
-}
-
-// The primes that shapes draws; all other numbers that are tried are none.
-fn is_prime(q: usize) -> bool {
+// The primes that are tried; all other numbers that are tried are none.
+fn is_prime(q: Symbol) -> bool {
     match q {
         2 | 3 | 5 | 7 => true,
         257 | 65519 | 65521 => true,
@@ -41,96 +31,65 @@ fn is_prime(q: usize) -> bool {
     }
 }
 
-// Opening: 1, 2, 9, 8.
-pub fn open_number(s: Shape) -> usize {
-    let unknown = if s.server {
-        false
-    } else {
-        is_outside(s.cluster, 1, s.clusters)
-    };
-    let length = over(is_outside(s.length, 1, 64), 9, over(unknown, 8, 0));
-    over(
-        bad_counts(s.clusters, s.size),
+// Opening: 1, 2, 9, 8. A server has no number of its own.
+pub fn opening_number(server: bool, s: RelayRound, otherwise: usize) -> usize {
+    let round = s.round;
+    let known = over(is_outside(s.cluster, round.clusters), 8, otherwise);
+    let length = over(
+        is_outside(round.length, 64),
+        9,
+        over(server, otherwise, known),
+    );
+    let prime = over(is_prime(round.q), length, 2);
+    let users = over(
+        is_outside(product(round.clusters, round.size), 16),
         1,
-        over(!is_prime(s.q), 2, length),
-    )
+        prime,
+    );
+    let size = over(is_outside(round.size, 8), 1, users);
+    over(is_outside(round.clusters, 8), 1, size)
 }
 
-// How many bits are set from bit `senders` on, digit by digit.
-fn stray_bits(reported: usize, senders: usize) -> usize {
-    let mut n: usize = 0;
-    let mut left = reported;
-    for i in 0usize..16 {
-        if i >= senders {
-            n = wrapping_add_usize(n, left % 2);
-        }
-        left = left / 2;
-    }
-    n
-}
-
-fn most(q: usize, length: usize, p: usize) -> usize {
-    if p < length { q } else { 1 }
-}
-
-// How many numbers are too large for their position.
-fn large_sums(q: usize, length: usize, sums: &[Symbol]) -> usize {
-    let mut n: usize = 0;
+// 3 where a sum is too large for its position: below q, and 0 past the length.
+fn sums_number(sums: &[Symbol], q: usize, length: usize, otherwise: usize) -> usize {
+    let mut number = otherwise;
     for p in 0..sums.len() {
-        if at(sums, p) >= most(q, length, p) {
-            n = wrapping_add_usize(n, 1);
-        }
+        number = over(at(sums, p) >= over(p < length, q, 1), 3, number);
     }
-    n
+    number
 }
 
-// What the fields of a state say it is for.
-pub fn shape_of(held: Held) -> Shape {
-    let round = held.round;
-    Shape {
-        server: held.server,
-        clusters: round.clusters,
-        size: round.size,
-        q: wide(round.q),
-        length: round.length,
-        cluster: held.cluster,
-        number: round.number,
-    }
-}
-
-fn contents_number(s: Shape, held: Held) -> usize {
-    let round = held.round;
+// A state that is handed in: 1, 2, 9, 8, 3. Where the counts are within their bounds there are at most 8 senders.
+pub fn state_number(server: bool, s: RelayRound, otherwise: usize) -> usize {
+    let round = s.round;
     let sums = round.sums;
-    let large = large_sums(s.q, s.length, &sums) > 0;
-    over(
-        stray_bits(wide(round.reported), senders(s)) > 0,
-        8,
-        over(large, 3, 0),
-    )
-}
-
-// A state that is handed in: 1, 2, 9, 8, 3.
-pub fn state_number(held: Held) -> usize {
-    let s = shape_of(held);
-    let opening = open_number(s);
-    over(opening > 0, opening, contents_number(s, held))
-}
-
-fn has_large(q: usize, block: &[Symbol]) -> bool {
-    large_sums(q, 66, block) > 0
+    let large = sums_number(&sums, wide(round.q), round.length, otherwise);
+    let most = power(65536, 2, senders(server, round) % 16);
+    opening_number(server, s, over(wide(round.reported) >= most, 8, large))
 }
 
 // A frame: 8, 4, 3, 14, 11.
-pub fn frame_number(s: Shape, book: &[Symbol], count: usize, f: Frame, block: &[Symbol]) -> usize {
-    let again = over(is_named(book, count, f.sender), 11, 0);
-    let late = over(f.number != s.number, 14, again);
-    let symbol = over(has_large(s.q, block), 3, late);
-    let length = over(block.len() != s.length, 4, symbol);
-    over(is_outside(f.sender, 1, senders(s)), 8, length)
+pub fn frame_number(
+    senders: usize,
+    round: Round,
+    names: usize,
+    sender: usize,
+    number: u32,
+    block: &[Symbol],
+) -> usize {
+    let named = quotient(names, power(65536, 2, sender % 16)) % 2;
+    let late = over(number != round.number, 14, over(named == 1, 11, 0));
+    let large = over(count_large(block, wide(round.q)) > 0, 3, late);
+    let length = over(block.len() != round.length, 4, large);
+    over(is_outside(sender, senders), 8, length)
 }
 
 // Giving sums: 12, 4.
-pub fn give_number(s: Shape, book: &[Symbol], count: usize, room: usize) -> usize {
-    let length = over(room != s.length, 4, 0);
-    over(!all_named(book, count, senders(s)), 12, length)
+pub fn give_number(senders: usize, round: Round, room: usize) -> usize {
+    let all = power(65536, 2, senders % 16);
+    over(
+        wrapping_add_usize(wide(round.reported), 1) != all,
+        12,
+        over(room != round.length, 4, 0),
+    )
 }

@@ -1,24 +1,18 @@
-// What a round is for: the plan's counts, q and L, the relay's cluster (0 at the server) and the round's number.
+// What a round is for: the plan's counts, q and L, the relay's cluster (0 at the server) and the round's number; and blocks of symbols.
 use crate::numbers::one_in;
+use crate::numbers::over;
 use crate::numbers::pick;
-use crate::numbers::pick32;
+use arithmetic::Symbol;
+use rounds::RelayRound;
+use rounds::Round;
+use std::num::wrapping_add_usize;
+use std::num::wrapping_sub_usize;
+use testing::fill;
+use testing::narrow;
 use testing::prime;
-use testing::residue;
-
-pub struct Shape {
-    pub server: bool,
-    pub clusters: usize,
-    pub size: usize,
-    pub q: usize,
-    pub length: usize,
-    pub cluster: usize,
-    pub number: u32,
-}
-
-// How many may report: relays to the server, users to a relay.
-pub fn senders(s: Shape) -> usize {
-    if s.server { s.clusters } else { s.size }
-}
+use testing::put;
+use testing::seed;
+use testing::state;
 
 // U and V as two digits: the largest plans, the smallest, and some between.
 pub fn counts(n: usize) -> usize {
@@ -42,6 +36,21 @@ pub fn counts(n: usize) -> usize {
     }
 }
 
+// Numbers at the bounds and past them; with the largest no product fits.
+pub fn edge(n: usize) -> usize {
+    match n {
+        0 => 0,
+        1 => 1,
+        2 => 8,
+        3 => 9,
+        4 => 17,
+        5 => 64,
+        6 => 65,
+        7 => 4294967297,
+        _ => 18446744073709551615,
+    }
+}
+
 // Numbers of 16 bits that are no primes: the smallest, squares, and the largest.
 pub fn composite(n: usize) -> usize {
     match n {
@@ -60,36 +69,71 @@ pub fn length(x: usize) -> usize {
     match pick(x, 2, 4) {
         0 => 1,
         1 => 64,
-        _ => 1 + pick(x, 3, 64) % 64,
+        _ => pick(x, 3, 64) % 64 + 1,
     }
 }
 
-fn number(x: usize) -> u32 {
+// The length itself, but for one in twelve: one symbol too few, or one too many.
+pub fn room(x: usize, length: usize) -> usize {
+    match pick(x, 14, 24) {
+        0 => wrapping_sub_usize(length, 1),
+        1 => wrapping_add_usize(length, 1),
+        _ => length,
+    }
+}
+
+pub fn number(x: usize) -> u32 {
     match pick(x, 5, 4) {
         0 => 0,
         1 => 4294967295,
-        _ => pick32(x, 6),
+        _ => (state(x, 6) % 4294967296) as u32,
     }
 }
 
-fn cluster(x: usize, server: bool, clusters: usize) -> usize {
-    if server {
-        return 0;
-    }
-    residue(pick(x, 7, 65536), clusters) % 65536 + 1
-}
-
-pub fn drawn_shape(x: usize) -> Shape {
-    let digits = counts(pick(x, 1, 16));
-    let server = one_in(x, 8, 2);
-    let clusters = digits / 10;
-    Shape {
-        server,
+// A round that nobody has reported to.
+pub fn empty(clusters: usize, size: usize, q: usize, length: usize, number: u32) -> Round {
+    Round {
         clusters,
-        size: digits % 10,
-        q: prime(pick(x, 4, 10)),
-        length: length(x),
-        cluster: cluster(x, server, clusters),
-        number: number(x),
+        size,
+        q: narrow(q),
+        length,
+        number,
+        reported: 0,
+        sums: [0; 64],
     }
+}
+
+// Such a round of a plan that is drawn.
+pub fn opened(server: bool, x: usize) -> RelayRound {
+    let digits = counts(pick(x, 1, 16));
+    let clusters = digits / 10;
+    RelayRound {
+        cluster: over(server, 0, pick(x, 7, clusters) % 8 + 1),
+        round: empty(
+            clusters,
+            digits % 10,
+            prime(pick(x, 4, 10)),
+            length(x),
+            number(x),
+        ),
+    }
+}
+
+// Symbols drawn from a seed; by chance one of the first is made too large: q, or more.
+pub fn block(q: usize, x: usize, damaged: bool) -> [Symbol; 66] {
+    let mut t = [0 as Symbol; 66];
+    fill(&mut t, q, x);
+    if damaged {
+        let more = over(
+            one_in(x, 33, 2),
+            0,
+            pick(x, 34, wrapping_sub_usize(65536, q)),
+        );
+        put(
+            &mut t,
+            pick(x, 35, length(seed(x))),
+            wrapping_add_usize(q, more),
+        );
+    }
+    t
 }

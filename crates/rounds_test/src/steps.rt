@@ -1,110 +1,77 @@
-// The library's steps, alike for relay and server: the state handed in, and the number and the state handed back.
-use crate::shapes::Shape;
+// The library's steps, alike for relay and server, and the comparison of what they hand back.
+use crate::numbers::compared;
+use crate::numbers::number_of;
 use arithmetic::Symbol;
-use refusals::Verdict;
 use rounds::RelayRound;
 use rounds::RelayStep;
 use rounds::Round;
 use rounds::ServerRound;
 use rounds::ServerStep;
-use testing::narrow;
-use testing::wide;
+use testing::same;
 
-pub struct Held {
-    pub server: bool,
-    pub cluster: usize,
-    pub round: Round,
-}
-
-pub struct Got {
-    pub number: usize,
-    pub held: Held,
-}
-
-pub struct Frame {
-    pub sender: usize,
-    pub number: u32,
-    pub length: usize,
-    pub damaged: bool,
-}
-
-// 99, which no refusal has, where a detail is not 0: rounds give none.
-pub fn number_of(answer: Verdict) -> usize {
-    let code = refusals::verdict_code(answer);
-    if code.first != 0 {
-        return 99;
-    }
-    if code.second != 0 {
-        return 99;
-    }
-    wide(code.number)
-}
-
-fn from_relay(step: RelayStep) -> Got {
+// A server's step, with the number of a cluster that it does not have.
+fn with_cluster(cluster: usize, step: ServerStep) -> RelayStep {
     let answer = step.answer;
     let next = step.round;
     let round = next.round;
-    Got {
-        number: number_of(answer),
-        held: Held {
-            server: false,
-            cluster: next.cluster,
-            round,
-        },
+    RelayStep {
+        answer,
+        round: RelayRound { cluster, round },
     }
 }
 
-fn from_server(step: ServerStep) -> Got {
+// Opens a round with the counts, q, L and numbers of this one.
+pub fn open(server: bool, s: RelayRound) -> RelayStep {
+    let r = s.round;
+    if server {
+        return with_cluster(
+            0,
+            ServerRound::open(r.clusters, r.size, r.q, r.length, r.number),
+        );
+    }
+    RelayRound::open(r.clusters, r.size, r.q, r.length, s.cluster, r.number)
+}
+
+pub fn count(
+    server: bool,
+    s: RelayRound,
+    sender: usize,
+    number: u32,
+    block: &[Symbol],
+) -> RelayStep {
+    let round = s.round;
+    if server {
+        return with_cluster(
+            s.cluster,
+            ServerRound { round }.count(sender, number, block),
+        );
+    }
+    s.count(sender, number, block)
+}
+
+pub fn give(server: bool, s: RelayRound, out: &mut [Symbol]) -> RelayStep {
+    let round = s.round;
+    if server {
+        return with_cluster(s.cluster, ServerRound { round }.give(out));
+    }
+    s.give(out)
+}
+
+// Whether two rounds are alike in everything they hold.
+fn same_round(a: Round, b: Round) -> bool {
+    let sums = a.sums;
+    let others = b.sums;
+    let alike = same(&sums, &others);
+    let counts = (a.clusters ^ b.clusters) | (a.size ^ b.size) | (a.length ^ b.length);
+    let symbols = (a.q ^ b.q) | (a.reported ^ b.reported);
+    counts == 0 && symbols == 0 && a.number == b.number && alike
+}
+
+// The number and the state, with what else was compared.
+pub fn agrees(number: usize, cluster: usize, round: Round, step: RelayStep, same: bool) -> usize {
     let answer = step.answer;
     let next = step.round;
-    let round = next.round;
-    Got {
-        number: number_of(answer),
-        held: Held {
-            server: true,
-            cluster: 0,
-            round,
-        },
-    }
-}
-
-fn relay(held: Held) -> RelayRound {
-    let round = held.round;
-    RelayRound {
-        cluster: held.cluster,
-        round,
-    }
-}
-
-fn server(held: Held) -> ServerRound {
-    let round = held.round;
-    ServerRound { round }
-}
-
-pub fn open(s: Shape) -> Got {
-    if s.server {
-        return from_server(ServerRound::open(s.clusters, s.size, narrow(s.q), s.length, s.number));
-    }
-    from_relay(RelayRound::open(
-        s.clusters,
-        s.size,
-        narrow(s.q),
-        s.length,
-        s.cluster,
-        s.number,
-    ))
-}
-
-pub fn count(held: Held, f: Frame, block: &[Symbol]) -> Got {
-    if held.server {
-        return from_server(server(held).count(f.sender, f.number, block));
-    }
-    from_relay(relay(held).count(f.sender, f.number, block))
-}
-
-pub fn give(held: Held, out: &mut [Symbol]) -> Got {
-    if held.server {
-        return from_server(server(held).give(out));
-    }
-    from_relay(relay(held).give(out))
+    let after = next.round;
+    let state = same_round(round, after) && next.cluster == cluster;
+    compared(number_of(answer), number, same && state)
 }
