@@ -1,4 +1,3 @@
-use borrow.Author.Needs.{needs}
 use borrow.Author.Tests.{ltb-true, ltb-false, le-leb, lt-leb, eq-eqb, ne-eqb, not-true, not-false}
 use mathlib.Core.Logic.{⊎-elim}
 use mathlib.Core.Path.{_≡_, sym, _∙_}
@@ -99,14 +98,14 @@ pub check-keys-spec : {M : Type 1} → statement M
 check-keys-spec =
     tie.close
     (tie.spec
-    (search needs)
-    (search needs)
+    (λ c κs. tt)
+    (λ c κs. tt)
     returns
     returns-2
     mul-if4
     mul-if5
     mul-if5-2
     returns-3
-    (search needs)
+    (λ c κs. tt)
     returns-4
     returns-5)
