@@ -1,4 +1,3 @@
-use borrow.Author.Needs.{needs}
 use borrow.Author.Tests.{eq-eqb, ne-eqb, not-true, not-false}
 use mathlib.Core.Logic.{⊎-elim}
 use mathlib.Core.Path.{_≡_, sym, _∙_}
@@ -97,15 +96,15 @@ pub check-keys-spec : {M : Type 1} → statement M
 check-keys-spec =
     tie.close
     (tie.spec
-    (search needs)
-    (search needs)
+    (λ c κs. tt)
+    (λ c κs. tt)
     returns
-    (search needs)
+    (λ c κs. tt)
     returns-2
     mul-if3
     mul-if4
     mul-if4-2
     returns-3
-    (search needs)
+    (λ c κs. tt)
     returns-4
     returns-5)

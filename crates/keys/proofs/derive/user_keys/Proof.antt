@@ -1,8 +1,8 @@
 -- The invariant: the keys written are those of the positions passed.
-use borrow.Author.Needs.{needs}
 use mathlib.Core.Path.{refl, sym, ap, _∙_}
 use mathlib.Core.List.{List}
 use Prim.Native.Nat.{ℕ, _+_, _-_, _*_, _%_, _≤_}
+use native.Mathlib.Nat.{le-add-right, add-sub-cancel-left}
 use native.Mathlib.Omega.{arith}
 use lib.ListN.{length, length-set}
 use Rattle.matrices.specs.Linear.{at}
@@ -44,10 +44,10 @@ mul-key-symbol : tie.Need-mul-key-symbol Inv-loop μ-loop
 mul-key-symbol c = omega (arith, fits c)
 
 sub-key-symbol : tie.Need-sub-key-symbol Inv-loop μ-loop
-sub-key-symbol c = omega arith
+sub-key-symbol c = le-add-right _ _
 
 part-key-symbol-start : tie.Need-part-key-symbol-start Inv-loop μ-loop
-part-key-symbol-start c = omega arith
+part-key-symbol-start c = le-add-right _ _
 
 part-key-symbol-end : tie.Need-part-key-symbol-end Inv-loop μ-loop
 part-key-symbol-end c = fits c
@@ -57,7 +57,7 @@ key-symbol-requires c κs =
     let s = c .before .before .loop in
     let a = c .before .before .before .before .before .before .args in
     let b : ℕ = s .p * length (a .row .now) in
-    (c .before .before .before .before .before .before .pre .0, sym (length-part (b + length (a .row .now) - b) b (a .source .now) (omega (arith, fits (c .before))) ∙ omega arith))
+    (c .before .before .before .before .before .before .pre .0, sym (length-part (b + length (a .row .now) - b) b (a .source .now) (omega (arith, fits (c .before))) ∙ add-sub-cancel-left _ _))
 
 loop-less : tie.Need-loop-less Inv-loop μ-loop
 loop-less c =
@@ -96,9 +96,9 @@ user-keys-spec =
     part-key-symbol-start
     part-key-symbol-end
     key-symbol-requires
-    (search needs)
-    (search needs)
-    (search needs)
+    (λ c. omega arith)
+    (λ c. c .before .before .loop-test .taken)
+    (λ c. omega arith)
     loop-less
     loop-again
     same-length

@@ -1,6 +1,7 @@
 -- The invariant: the keys written are those of the users passed.
 use mathlib.Core.Path.{_≡_, sym, ap, ap₂, _∙_}
 use Prim.Native.Nat.{ℕ, _+_, _-_, _*_, _≤_}
+use native.Mathlib.Nat.{le-add-right, add-sub-cancel-left}
 use native.Mathlib.Omega.{arith}
 use lib.ListN.{length, take, drop}
 use Rattle.plans.specs.Plans.{usersOf}
@@ -51,10 +52,10 @@ mul-user-keys : tie.Need-mul-user-keys Inv-loop μ-loop
 mul-user-keys c = omega (arith, row-in c)
 
 sub-user-keys : tie.Need-sub-user-keys Inv-loop μ-loop
-sub-user-keys c = omega arith
+sub-user-keys c = le-add-right _ _
 
 part-user-keys-start : tie.Need-part-user-keys-start Inv-loop μ-loop
-part-user-keys-start c = omega arith
+part-user-keys-start c = le-add-right _ _
 
 part-user-keys-end : tie.Need-part-user-keys-end Inv-loop μ-loop
 part-user-keys-end c = row-in c
@@ -63,10 +64,10 @@ mul-user-keys-2 : tie.Need-mul-user-keys-2 Inv-loop μ-loop
 mul-user-keys-2 c = omega (arith, keys-in (c .before), c .before .before .loop .inv .1 .whole)
 
 sub-user-keys-2 : tie.Need-sub-user-keys-2 Inv-loop μ-loop
-sub-user-keys-2 c = omega arith
+sub-user-keys-2 c = le-add-right _ _
 
 part-user-keys-start-2 : tie.Need-part-user-keys-start-2 Inv-loop μ-loop
-part-user-keys-start-2 c = omega arith
+part-user-keys-start-2 c = le-add-right _ _
 
 part-user-keys-end-2 : tie.Need-part-user-keys-end-2 Inv-loop μ-loop
 part-user-keys-end-2 c = keys-in (c .before)
@@ -78,8 +79,8 @@ user-keys-requires c κs =
     let a = S .args in
     let b : ℕ = s .i * a .positions in
     let r : ℕ = s .i * a .plan .rate in
-    let lent : length (take (b + a .positions - b) (drop b (s .keys))) ≡ a .positions = length-part (b + a .positions - b) b (s .keys) (omega (arith, keys-in (c .before .before))) ∙ omega arith in
-    let row : length (take (r + a .plan .rate - r) (drop r (a .table .now))) ≡ a .plan .rate = length-part (r + a .plan .rate - r) r (a .table .now) (omega (arith, row-in (c .before .before))) ∙ omega arith in
+    let lent : length (take (b + a .positions - b) (drop b (s .keys))) ≡ a .positions = length-part (b + a .positions - b) b (s .keys) (omega (arith, keys-in (c .before .before))) ∙ add-sub-cancel-left _ _ in
+    let row : length (take (r + a .plan .rate - r) (drop r (a .table .now))) ≡ a .plan .rate = length-part (r + a .plan .rate - r) r (a .table .now) (omega (arith, row-in (c .before .before))) ∙ add-sub-cancel-left _ _ in
     (S .pre .0, S .pre .3 ∙ sym (ap₂ _*_ lent row))
 
 add-i : tie.Need-add-i Inv-loop μ-loop
@@ -98,7 +99,7 @@ loop-again c =
     let v : ℕ = b + a .positions - b in (
       omega (arith, h),
       front-part _ _ (s .keys) b v ((s .i + 1) * a .positions) (c .before .before .user-keys .last .1 .1 .1 .0) (omega arith) (s .inv .1) (omega (arith, keys-in (c .before .before .before .before .before)))
-          (c .before .before .user-keys .ensures ∙ keys-of-row (a .plan .q) (usersOf (a .plan)) (a .plan .rate) (a .positions) (a .table .now) (a .source .now) (s .keys) (s .i) (r + a .plan .rate - r) v (omega arith) (omega arith) h (row-in (c .before .before .before .before .before)) (keys-in (c .before .before .before .before .before))),
+          (c .before .before .user-keys .ensures ∙ keys-of-row (a .plan .q) (usersOf (a .plan)) (a .plan .rate) (a .positions) (a .table .now) (a .source .now) (s .keys) (s .i) (r + a .plan .rate - r) v (add-sub-cancel-left _ _) (add-sub-cancel-left _ _) h (row-in (c .before .before .before .before .before)) (keys-in (c .before .before .before .before .before))),
     )
 
 same-length : tie.Need-same-length Inv-loop μ-loop

@@ -7,7 +7,6 @@ use lib.ListN.{length}
 use Rattle.matrices.specs.Linear.{at}
 use Rattle.secrecy.specs.Counts.{sumTo}
 use Rattle.secrecy.proofs.RunningSum.{kept-none, kept-next}
-use borrow.Author.Needs.{needs}
 use Rattle.keys.proofs.maker.column_sum.Statement.{statement}
 use Rattle.keys.proofs.maker.column_sum.Tie as tie
 
@@ -78,7 +77,7 @@ column-sum-spec =
     add-add-mod
     mul-add-mod-2
     shared-slice-read-add-mod
-    (search needs)
+    (λ c κs. tt)
     add-i
     loop-less
     loop-again

@@ -1,5 +1,4 @@
 -- The invariant: the columns passed are written, below rows that stay as they were.
-use borrow.Author.Needs.{needs}
 use mathlib.Core.Path.{sym, ap, _∙_, subst}
 use Prim.Native.Nat.{ℕ, _+_, _-_, _*_, _%_, _≤_}
 use native.Mathlib.Omega.{arith}
@@ -77,7 +76,7 @@ fill-last-spec =
     mul-start
     loop-holds
     column-sum-requires
-    (search needs)
+    (λ c κs. tt)
     add-table
     mul-table
     slice-write-table

@@ -1,5 +1,4 @@
 -- The invariant: the powers written are those of the exponents passed.
-use borrow.Author.Needs.{needs}
 use mathlib.Core.Path.{refl, sym, _∙_}
 use Prim.Native.Nat.{_-_}
 use native.Mathlib.Omega.{arith}
@@ -46,11 +45,11 @@ fill-row-spec =
     Inv-loop
     μ-loop
     loop-holds
-    (search needs)
-    (search needs)
-    (search needs)
-    (search needs)
-    (search needs)
+    (λ c. omega arith)
+    (λ c κs. tt)
+    (λ c. omega arith)
+    (λ c. c .before .loop-test .taken)
+    (λ c. omega arith)
     loop-less
     loop-again
     same-length

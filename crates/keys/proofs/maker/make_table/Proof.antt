@@ -1,4 +1,3 @@
-use borrow.Author.Needs.{needs}
 use borrow.Author.Tests.{leb-false, eqb-true, not-false}
 use mathlib.Core.Path.{_≡_, refl, sym, ap, _∙_, subst}
 use mathlib.Core.Bool.{Bool, true}
@@ -107,15 +106,15 @@ pub make-table-spec : {M : Type 1} → statement M
 make-table-spec =
     tie.close
     (tie.spec
-    (search needs)
-    (search needs)
+    (λ c κs. tt)
+    (λ c. c .match .keys1)
     write-table-requires
-    (search needs)
-    (search needs)
+    (λ c. c .match2 .keys1)
+    (λ c. c .before .before .before .before .table .given)
     returns
-    (search needs)
-    (search needs)
-    (search needs)
+    (λ c. c .match2 .keys2)
+    (λ c. c .match .keys2)
+    (λ c. c .before .before .before .table .given)
     returns-2
-    (search needs)
+    (λ c. refl)
     returns-3)

@@ -1,4 +1,3 @@
-use borrow.Author.Needs.{needs}
 use mathlib.Core.Path.{sym, subst, _∙_}
 use Prim.Native.Nat.{ℕ, _≤_}
 use lib.ListN.{length}
@@ -29,5 +28,5 @@ write-table-spec =
     array-borrow-prefix-built
     slice-aggregate-write-vetted
     write-vetted-requires
-    (search needs)
-    (λ c. search needs))
+    (λ c. c .before .table .given)
+    (λ c. c .before .before .before .write-vetted .ensures))

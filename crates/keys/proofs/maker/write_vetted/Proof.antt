@@ -1,4 +1,3 @@
-use borrow.Author.Needs.{needs}
 use borrow.Author.Tests.{eq-eqb}
 use mathlib.Core.Path.{_≡_, sym, ap, _∙_}
 use mathlib.Core.Bool.{Bool, cond}
@@ -44,7 +43,7 @@ returns c =
     let s = v .before .before .before .before .before .before .before .before in
     let built : List ℕ = v .before .before .before .before .fill-table .last .1 .1 .0 in
     let lent : List ℕ = s .args .table .now in
-    let copied = copied-whole built lent _ (c .before .before .copy .ensures) (search needs) in
+    let copied = copied-whole built lent _ (c .before .before .copy .ensures) (v .before .before .before .built .given ∙ s .pre .3 ∙ sym (s .pre .4)) in
     let accepts = sym (c .before .before .before .before .before .before .is-accepted .ensures) ∙ c .before .before .before .before .before .if1 .taken in
     (found v, copied ∙ v .before .before .before .before .fill-table .ensures ∙ sym (new-taken (verdictCode (v .vet .result)) (made s) lent accepts))
 
@@ -58,12 +57,12 @@ pub write-vetted-spec : {M : Type 1} → statement M
 write-vetted-spec =
     tie.close
     (tie.spec
-    (λ c κs. search needs)
-    (search needs)
-    (search needs)
-    (search needs)
-    (search needs)
-    (search needs)
+    (λ c κs. (c .before .before .before .pre .0, c .before .before .before .pre .1, c .before .before .before .pre .2, c .before .before .before .pre .3))
+    (λ c κs. tt)
+    (λ c κs. tt)
+    (λ c κs. tt)
+    (λ c. c .before .before .before .before .before .before .before .before .before .before .built .given)
+    (λ c. c .before .table .given)
     returns
-    (search needs)
+    (λ c. c .before .before .before .before .before .built .given)
     returns-2)
