@@ -1,5 +1,5 @@
+use native.Mathlib.Omega.{arith}
 use borrow.Author.Tests.{eq-eqb, ne-eqb, not-true, not-false}
-use borrow.Author.Needs.{needs}
 use mathlib.Core.Path.{_≡_, sym, ap, _∙_}
 use mathlib.Core.Bool.{Bool, true, false}
 use mathlib.Core.List.{List}
@@ -60,25 +60,25 @@ sized c = sym (c .before .before .distance-in .ensures) ∙ c .if3 .left ∙ sym
 
 -- a test that is passed leaves the checks after it
 past-trailer : (c : tie.Else1) → found (c .before .before .before .before) ≡ firstOf (left 1 (c .before .before .before .before))
-past-trailer c = simp (good c)
+past-trailer c = rw (good c)
 
 past-bounds : (c : tie.Else2) → found (c .before .before .before .before .before .before .before) ≡ firstOf (left 2 (c .before .before .before .before .before .before .before))
-past-bounds c = past-trailer (c .before .before .before) ∙ simp (bounds-are (c .before) ∙ not-false _ (c .if2 .left))
+past-bounds c = past-trailer (c .before .before .before) ∙ rw (bounds-are (c .before) ∙ not-false _ (c .if2 .left))
 
 past-lengths : (c : tie.Else4) → found (c .before .before .before .before .before .before .before .before .before .before .before) ≡ firstOf (left 3 (c .before .before .before .before .before .before .before .before .before .before .before))
-past-lengths c = past-bounds (c .before .before .before .before) ∙ simp (eq-eqb _ _ (sized (c .before)), eq-eqb _ _ (c .if4 .left))
+past-lengths c = past-bounds (c .before .before .before .before) ∙ rw (eq-eqb _ _ (sized (c .before)), eq-eqb _ _ (c .if4 .left))
 
 past-prime : (c : tie.Else5) → found (c .before .before .before .before .before .before .before .before .before .before .before .before .before) ≡ firstOf (left 4 (c .before .before .before .before .before .before .before .before .before .before .before .before .before))
-past-prime c = past-lengths (c .before .before) ∙ simp (prime-is (c .before) ∙ not-false _ (c .if5 .left))
+past-prime c = past-lengths (c .before .before) ∙ rw (prime-is (c .before) ∙ not-false _ (c .if5 .left))
 
 returns : tie.Need-returns
-returns c = refused (c .before .before .before .before) BadTrailer (simp (trailer-is (c .before) ∙ c .if1 .taken))
+returns c = refused (c .before .before .before .before) BadTrailer (rw (trailer-is (c .before) ∙ c .if1 .taken))
 
 plan-in-requires : tie.Need-plan-in-requires
 plan-in-requires c κs = good c
 
 returns-2 : tie.Need-returns-2
-returns-2 c = refused (c .before .before .before .before .before .before .before) OutOfBounds (past-trailer (c .before .before .before) ∙ simp (bounds-are (c .before) ∙ not-true _ (c .if2 .taken)))
+returns-2 c = refused (c .before .before .before .before .before .before .before) OutOfBounds (past-trailer (c .before .before .before) ∙ rw (bounds-are (c .before) ∙ not-true _ (c .if2 .taken)))
 
 distance-in-requires : tie.Need-distance-in-requires
 distance-in-requires c κs = trailer-of (c .before .before .before .before .before .before .before .args .bytes .now) (good (c .before .before .before)) .four
@@ -90,13 +90,13 @@ returns-3 : tie.Need-returns-3
 returns-3 c =
     let B : List ℕ = c .before .before .before .before .before .before .before .before .before .before .args .bytes .now in
     let other : distance B ≡ recordSize (planRead B) → ⊥ = λ e. c .if3 .taken (c .before .before .distance-in .ensures ∙ e ∙ size-is (c .before)) in
-    refused (c .before .before .before .before .before .before .before .before .before .before) WrongLength (past-bounds (c .before .before .before) ∙ simp (ne-eqb (distance B) (recordSize (planRead B)) other))
+    refused (c .before .before .before .before .before .before .before .before .before .before) WrongLength (past-bounds (c .before .before .before) ∙ rw (ne-eqb (distance B) (recordSize (planRead B)) other))
 
 returns-4 : tie.Need-returns-4
-returns-4 c = refused (c .before .before .before .before .before .before .before .before .before .before .before) WrongLength (past-bounds (c .before .before .before .before) ∙ simp (eq-eqb _ _ (sized (c .before)), ne-eqb _ _ (c .if4 .taken)))
+returns-4 c = refused (c .before .before .before .before .before .before .before .before .before .before .before) WrongLength (past-bounds (c .before .before .before .before) ∙ rw (eq-eqb _ _ (sized (c .before)), ne-eqb _ _ (c .if4 .taken)))
 
 returns-5 : tie.Need-returns-5
-returns-5 c = refused (c .before .before .before .before .before .before .before .before .before .before .before .before .before) NotPrime (past-lengths (c .before .before) ∙ simp (prime-is (c .before) ∙ not-true _ (c .if5 .taken)))
+returns-5 c = refused (c .before .before .before .before .before .before .before .before .before .before .before .before .before) NotPrime (past-lengths (c .before .before) ∙ rw (prime-is (c .before) ∙ not-true _ (c .if5 .taken)))
 
 start-in-requires : tie.Need-start-in-requires
 start-in-requires c κs = good (c .before .before .before .before .before .before .before .before .before)
@@ -110,31 +110,31 @@ words-below-requires c κs =
     words-inside (c .before .before .before .before .before .before .before .before .before .before .before .before .before .before .before .args .bytes .now) (plan .result) _ _ (plan .ensures) (c .symbols .ensures) (c .before .start-in .ensures) (good (c .before .before .before .before .before .before .before .before .before .before .before)) (sized (c .before .before .before .before .before))
 
 returns-6 : tie.Need-returns-6
-returns-6 c = refused (c .before .before .before .before .before .before .before .before .before .before .before .before .before .before .before .before .before) NotASymbol (past-prime (c .before .before .before .before) ∙ simp (below-is (c .before) ∙ not-true _ (c .if6 .taken)))
+returns-6 c = refused (c .before .before .before .before .before .before .before .before .before .before .before .before .before .before .before .before .before) NotASymbol (past-prime (c .before .before .before .before) ∙ rw (below-is (c .before) ∙ not-true _ (c .if6 .taken)))
 
 returns-7 : tie.Need-returns-7
 returns-7 c =
     let s = c .before .before .before .before .before .before .before .before .before .before .before .before .before .before .before .before .before in
-    let e : found s ≡ accepted = past-prime (c .before .before .before .before) ∙ simp (below-is (c .before) ∙ not-false _ (c .if6 .left)) in
+    let e : found s ≡ accepted = past-prime (c .before .before .before .before) ∙ rw (below-is (c .before) ∙ not-false _ (c .if6 .left)) in
     (sym e, c .before .before .before .before .before .before .before .before .before .before .before .before .plan-in .ensures ∙ sym (accepted-takes (found s) (planRead (s .args .bytes .now)) noPlan (sym e)))
 
 pub check-record-spec : {M : Type 1} → statement M
 check-record-spec =
     tie.close
     (tie.spec
-    (search needs)
+    (λ c κs. tt)
     returns
     plan-in-requires
-    (search needs)
+    (λ c κs. tt)
     returns-2
     distance-in-requires
     record-size-requires
     returns-3
     returns-4
-    (search needs)
+    (λ c κs. tt)
     returns-5
     start-in-requires
-    (search needs)
+    (λ c. omega arith)
     symbols-requires
     words-below-requires
     returns-6

@@ -1,5 +1,4 @@
-use borrow.Author.Needs.{needs}
-use mathlib.Core.Path.{_≡_, sym, ap, _∙_}
+use mathlib.Core.Path.{_≡_, refl, sym, ap, _∙_}
 use mathlib.Core.Bool.{true}
 use mathlib.Core.List.{List}
 use Prim.Native.Nat.{ℕ}
@@ -72,14 +71,14 @@ pub read-record-spec : {M : Type 1} → statement M
 read-record-spec =
     tie.close
     (tie.spec
-    (search needs)
-    (search needs)
+    (λ c κs. tt)
+    (λ c. c .match .keys1)
     start-in-requires
-    (search needs)
+    (λ c. omega arith)
     symbols-requires
     fill-requires
-    (search needs)
-    (search needs)
+    (λ c. c .match .keys2)
+    (λ c. c .before .table .given)
     returns
-    (search needs)
+    (λ c. refl)
     returns-2)

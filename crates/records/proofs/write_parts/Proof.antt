@@ -1,4 +1,3 @@
-use borrow.Author.Needs.{needs}
 use mathlib.Core.Path.{_≡_, sym, ap, ap₂, _∙_}
 use mathlib.Core.List.{List, _++_}
 use Prim.Native.Nat.{ℕ, _-_}
@@ -57,17 +56,17 @@ pub write-parts-spec : {M : Type 1} → statement M
 write-parts-spec =
     tie.close
     (tie.spec
-    (search needs)
-    (search needs)
+    (λ c. omega arith)
+    (λ c. omega arith)
     slice-aggregate-write-head
     write-head-requires
-    (search needs)
-    (search needs)
-    (search needs)
-    (search needs)
-    (search needs)
-    (search needs)
-    (search needs)
+    (λ c. omega arith)
+    (λ c. omega arith)
+    (λ c. omega arith)
+    (λ c κs. omega arith)
+    (λ c. omega arith)
+    (λ c. omega arith)
+    (λ c. omega arith)
     write-trailer-requires
-    (search needs)
+    (λ c. c .before .out3 .given .1 ∙ c .before .before .before .before .before .out2 .given .1 ∙ c .before .before .before .before .before .before .before .before .before .out .given .1)
     returns)

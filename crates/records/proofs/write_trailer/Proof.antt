@@ -1,6 +1,7 @@
-use borrow.Author.Needs.{needs}
+use native.Mathlib.Omega.{arith}
 use mathlib.Core.List.{[], _∷_}
 use Prim.Native.Nat.{_/_, _%_}
+use lib.ListN.{length-set}
 use Rattle.records.proofs.Fills.{stored-all}
 use Rattle.records.proofs.write_trailer.Statement.{statement}
 use Rattle.records.proofs.write_trailer.Tie as tie
@@ -12,11 +13,11 @@ pub write-trailer-spec : {M : Type 1} → statement M
 write-trailer-spec =
     tie.close
     (tie.spec
-    (search needs)
-    (search needs)
-    (search needs)
-    (λ c. search needs)
-    (λ c. search needs)
-    (λ c. search needs)
-    (search needs)
+    (λ c. omega arith)
+    (λ c. omega arith)
+    (λ c. omega arith)
+    (λ c. simp length-set (omega arith))
+    (λ c. simp length-set (omega arith))
+    (λ c. simp length-set (omega arith))
+    (λ c. simp length-set)
     returns)
