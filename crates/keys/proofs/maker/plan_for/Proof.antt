@@ -14,7 +14,7 @@ use Rattle.keys.proofs.maker.plan_for.Statement.{statement}
 use Rattle.keys.proofs.maker.plan_for.Tie as tie
 
 returns : tie.Need-returns
-returns c = (simp (sym (c .before .counts-fit .ensures) ∙ not-true _ (c .if1 .taken)), refl)
+returns c = (rw (sym (c .before .counts-fit .ensures) ∙ not-true _ (c .if1 .taken)), refl)
 
 -- what the counts satisfy
 counts : (c : tie.Else1) → (let a = c .before .before .before .args in countsFit (a .clusters) (a .size) (a .limit) ≡ true)
@@ -24,13 +24,13 @@ known : (c : tie.Else1) → (let a = c .before .before .before .args in Counts (
 known c = let a = c .before .before .before .args in counts-known (a .clusters) (a .size) (a .limit) (counts c)
 
 returns-2 : tie.Need-returns-2
-returns-2 c = (simp (counts (c .before .before), sym (c .before .is-prime .ensures) ∙ not-true _ (c .if2 .taken)), refl)
+returns-2 c = (rw (counts (c .before .before), sym (c .before .is-prime .ensures) ∙ not-true _ (c .if2 .taken)), refl)
 
 prime : (c : tie.Else2) → isPrime (c .before .before .before .before .before .args .q) ≡ true
 prime c = sym (c .before .is-prime .ensures) ∙ not-false _ (c .if2 .left)
 
 returns-3 : tie.Need-returns-3
-returns-3 c = (simp (counts (c .before .before .before), prime (c .before), le-ltb _ _ (c .if3 .taken)), refl)
+returns-3 c = (rw (counts (c .before .before .before), prime (c .before), le-ltb _ _ (c .if3 .taken)), refl)
 
 sub-if4 : tie.Need-sub-if4
 sub-if4 c = known (c .before .before .before) .some-clusters
@@ -42,7 +42,7 @@ mul-if4 c =
     omega (arith, mul-le-mul {n₁ = a .clusters - 1} {m₁ = a .size} {n₂ = 8} {m₂ = 8} (omega (arith, k .few-clusters)) (k .few-size))
 
 returns-4 : tie.Need-returns-4
-returns-4 c = (simp (counts (c .before .before .before .before), prime (c .before .before), lt-ltb _ _ (c .before .if3 .left), le-leb _ _ (c .if4 .taken)), refl)
+returns-4 c = (rw (counts (c .before .before .before .before), prime (c .before .before), lt-ltb _ _ (c .before .if3 .left), le-leb _ _ (c .if4 .taken)), refl)
 
 rate-of-requires : tie.Need-rate-of-requires
 rate-of-requires c κs =
@@ -70,10 +70,10 @@ asked : (c : tie.After-rate-of) → (let a = c .before .before .before .before .
 asked c = let a = c .before .before .before .before .before .before .before .before .args in ap (λ (R : ℕ). a .clusters * a .size * R) (c .rate-of .ensures)
 
 returns-5 : tie.Need-returns-5
-returns-5 c = (simp (counts (c .before .before .before .before .before .before), prime (c .before .before .before .before), lt-ltb _ _ (c .before .before .before .if3 .left), lt-leb _ _ (c .before .before .if4 .left), ne-eqb _ _ (λ e. c .if5 .taken (e ∙ sym (asked (c .before))))), refl)
+returns-5 c = (rw (counts (c .before .before .before .before .before .before), prime (c .before .before .before .before), lt-ltb _ _ (c .before .before .before .if3 .left), lt-leb _ _ (c .before .before .if4 .left), ne-eqb _ _ (λ e. c .if5 .taken (e ∙ sym (asked (c .before))))), refl)
 
 returns-6 : tie.Need-returns-6
-returns-6 c = (simp (counts (c .before .before .before .before .before .before), prime (c .before .before .before .before), lt-ltb _ _ (c .before .before .before .if3 .left), lt-leb _ _ (c .before .before .if4 .left), eq-eqb _ _ (c .if5 .left ∙ asked (c .before))), ap (planned (c .before .before .before .before .before .before .before .before .before)) (c .before .rate-of .ensures))
+returns-6 c = (rw (counts (c .before .before .before .before .before .before), prime (c .before .before .before .before), lt-ltb _ _ (c .before .before .before .if3 .left), lt-leb _ _ (c .before .before .if4 .left), eq-eqb _ _ (c .if5 .left ∙ asked (c .before))), ap (planned (c .before .before .before .before .before .before .before .before .before)) (c .before .rate-of .ensures))
 
 pub plan-for-spec : {M : Type 1} → statement M
 plan-for-spec =
