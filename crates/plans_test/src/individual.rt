@@ -1,15 +1,17 @@
 // Individual keys: sums in 64 bits from the last symbol to the first, reduced once.
-use crate::making::fill_made;
+use crate::making::table;
+use crate::numbers::clip;
+use crate::numbers::compared;
+use crate::numbers::is_outside;
+use crate::numbers::over;
+use crate::numbers::verdict_said;
+use crate::numbers::wrong_length;
 use crate::shapes::Shape;
-use crate::shapes::class;
-use crate::shapes::counts;
-use crate::shapes::plain;
 use crate::shapes::plan_of;
+use crate::shapes::shape_of;
+use crate::shapes::spoil;
 use crate::shapes::symbols;
 use crate::shapes::users;
-use crate::shapes::verdict_said;
-use crate::shapes::wrong_length;
-use crate::slices::is_filled;
 use arithmetic::Symbol;
 use keys::derive_keys;
 use testing::at;
@@ -26,18 +28,18 @@ use testing::step;
 use vetting::vet;
 
 // With the maker's rate, but for the last, which is out of bounds. No coalition is large, so that the walk is short.
-fn counts_of(n: usize) -> Shape {
+fn counts(n: usize) -> usize {
     match n {
-        0 => counts(2, 1, 0, 1),
-        1 => counts(2, 2, 1, 3),
-        2 => counts(3, 2, 1, 3),
-        3 => counts(2, 3, 2, 5),
-        4 => counts(8, 2, 1, 8),
-        5 => counts(2, 8, 1, 9),
-        6 => counts(4, 4, 0, 4),
-        7 => counts(8, 1, 5, 7),
-        8 => counts(5, 3, 1, 5),
-        _ => counts(9, 1, 0, 8),
+        0 => 2010001,
+        1 => 2020103,
+        2 => 3020103,
+        3 => 2030205,
+        4 => 8020108,
+        5 => 2080109,
+        6 => 4040004,
+        7 => 8010507,
+        8 => 5030105,
+        _ => 9010008,
     }
 }
 
@@ -48,55 +50,6 @@ fn modulus(n: usize) -> usize {
         2 => 4099,
         3 => 65519,
         _ => 65521,
-    }
-}
-
-pub fn shape(number: usize) -> Shape {
-    let x = seed(seed(number));
-    let c = counts_of(number % 10);
-    let more = if draw(x, 16) == 0 { 1 } else { 0 };
-    Shape {
-        clusters: c.clusters,
-        size: c.size,
-        limit: c.limit % 256 + more % 2,
-        rate: c.rate,
-        q: modulus(draw(step(x), 5)),
-    }
-}
-
-// L, in turn from 0 to 65.
-pub fn positions(number: usize) -> usize {
-    number / 10 % 66
-}
-
-pub fn source_length(number: usize) -> usize {
-    let s = shape(number);
-    wrong_length(product(positions(number), s.rate), draw(seed(number), 16))
-}
-
-pub fn keys_length(number: usize) -> usize {
-    let x = step(seed(number));
-    wrong_length(
-        product(positions(number), users(shape(number))),
-        draw(x, 16),
-    )
-}
-
-// In one source of eight a symbol becomes q or the largest number.
-fn spoil(source: &mut [Symbol], q: usize, x: usize) {
-    let i = draw(step(x), source.len());
-    match draw(x, 16) {
-        0 => put(source, i, q),
-        1 => put(source, i, 65535),
-        _ => {}
-    }
-}
-
-// The table made the other way; in one of 16 a symbol becomes 0.
-fn fill_table(s: Shape, t: &mut [Symbol], x: usize) {
-    fill_made(s, 3, t);
-    if draw(x, 16) == 0 {
-        put(t, draw(step(x), t.len()), 0);
     }
 }
 
@@ -115,10 +68,18 @@ fn key(s: Shape, t: &[Symbol], source: &[Symbol], i: usize, p: usize) -> usize {
     residue(sum, s.q)
 }
 
-// Place by place: users one after the other, `many` symbols each.
-fn are_keys(s: Shape, t: &[Symbol], source: &[Symbol], keys: &[Symbol], many: usize) -> bool {
+// Place by place: users one after the other, `many` symbols each; where the call was refused, 65,535 everywhere, as before it.
+fn are_keys(
+    s: Shape,
+    t: &[Symbol],
+    source: &[Symbol],
+    keys: &[Symbol],
+    many: usize,
+    number: usize,
+) -> bool {
     for x in 0..keys.len() {
-        if at(keys, x) != key(s, t, source, quotient(x, many), residue(x, many)) {
+        let want = key(s, t, source, quotient(x, many), residue(x, many));
+        if at(keys, x) != over(number > 0, 65535, want) {
             return false;
         }
     }
@@ -126,51 +87,69 @@ fn are_keys(s: Shape, t: &[Symbol], source: &[Symbol], keys: &[Symbol], many: us
 }
 
 // The vet's refusals, then 9, 4 for either block, 3.
-fn refusal(s: Shape, t: &[Symbol], many: usize, source: &[Symbol], keys: usize) -> usize {
-    let vetted = verdict_said(vet(plan_of(s), t));
-    if vetted != 0 {
-        return vetted;
-    }
-    if many == 0 || many > 64 {
-        return plain(9);
-    }
-    if source.len() != product(many, s.rate) || keys != product(users(s), many) {
-        return plain(4);
-    }
-    if count_large(source, s.q) != 0 {
-        return plain(3);
-    }
-    0
-}
-
-pub fn table_length(number: usize) -> usize {
-    symbols(shape(number))
+fn refusal(s: Shape, vetted: usize, many: usize, source: &[Symbol], keys: usize) -> usize {
+    let large = over(count_large(source, s.q) > 0, 3, 0);
+    let lengths = (source.len() ^ product(many, s.rate)) | (keys ^ product(users(s), many));
+    let number = over(is_outside(many, 64), 9, over(lengths != 0, 4, large));
+    over(vetted > 0, vetted, number)
 }
 
 // What the library says, and what it does to the keys.
-fn judged(number: usize, t: &[Symbol], source: &[Symbol], keys: &mut [Symbol], x: usize) -> usize {
-    let s = shape(number);
-    let many = positions(number);
-    let answer = verdict_said(derive_keys(plan_of(s), t, many, source, keys));
-    let buffers = if answer == 0 {
-        are_keys(s, t, source, keys, many)
-    } else {
-        is_filled(keys, 65536, x)
-    };
-    class(answer, refusal(s, t, many, source, keys.len()), buffers)
+fn judged(s: Shape, t: &[Symbol], many: usize, source: &[Symbol], keys: &mut [Symbol]) -> usize {
+    let plan = plan_of(s);
+    let vetted = verdict_said(vet(plan, t));
+    let number = refusal(s, vetted, many, source, keys.len());
+    let answer = verdict_said(derive_keys(plan, t, many, source, keys));
+    compared(answer, number, are_keys(s, t, source, keys, many, number))
 }
 
-pub fn derived(
-    number: usize,
-    t: &mut [Symbol],
-    source: &mut [Symbol],
-    keys: &mut [Symbol],
-) -> usize {
-    let s = shape(number);
-    let x = seed(step(number));
-    fill_table(s, t, x);
-    fill(source, s.q, x);
-    spoil(source, s.q, seed(x));
-    fill(keys, 65536, x);
-    judged(number, t, source, keys, x)
+// The plan's limit is one more in one of 16.
+fn drawn_shape(number: usize, x: usize) -> Shape {
+    let more = over(draw(x, 16) == 0, 100, 0);
+    shape_of(
+        counts(number % 10) % 100000000 + more % 256,
+        modulus(draw(step(x), 5)),
+    )
+}
+
+// The table made the other way; in one of 16 a symbol becomes 0.
+fn drawn_table(s: Shape, x: usize) -> [Symbol; 257] {
+    let mut t = table(s, 3, true);
+    put(
+        &mut t,
+        over(draw(x, 16) == 0, draw(step(x), symbols(s)), 300),
+        0,
+    );
+    t
+}
+
+// In one source of eight a symbol becomes q or the largest number.
+fn drawn_source(q: usize, many: usize, x: usize) -> [Symbol; 1100] {
+    let mut source = [0 as Symbol; 1100];
+    fill(&mut source, q, x);
+    spoil(&mut source, draw(step(x), many), q, draw(seed(x), 16));
+    source
+}
+
+// One too long, one too short or right: both blocks by themselves.
+pub fn dealt(s: Shape, many: usize, x: usize, kind: usize) -> usize {
+    let length = product(many, s.rate);
+    let t = drawn_table(s, seed(x));
+    let source = drawn_source(s.q, length, seed(step(x)));
+    let n = clip(symbols(s), 257);
+    let m = clip(wrong_length(length, kind % 16), 1100);
+    let k = clip(wrong_length(product(many, users(s)), kind / 16), 1100);
+    let mut keys = [65535 as Symbol; 1100];
+    judged(s, &t[..n], many, &source[..m], &mut keys[..k])
+}
+
+// L is in turn from 0 to 65. The blocks have the right length, but for one of eight.
+pub fn derived(number: usize) -> usize {
+    let x = seed(seed(number));
+    dealt(
+        drawn_shape(number, x),
+        number / 10 % 66,
+        x,
+        draw(seed(number), 256),
+    )
 }

@@ -1,22 +1,23 @@
 // The table maker, for all counts up to one past the bounds: powers by repeated multiplication, and sums of whole columns.
+use crate::numbers::clip;
+use crate::numbers::compared;
+use crate::numbers::holds;
+use crate::numbers::over;
+use crate::numbers::planned_said;
+use crate::numbers::verdict_said;
+use crate::numbers::wrong_length;
 use crate::shapes::Shape;
-use crate::shapes::class;
-use crate::shapes::counts_fit;
-use crate::shapes::plain;
+use crate::shapes::counts_number;
 use crate::shapes::plan_of;
-use crate::shapes::planned_said;
+use crate::shapes::prime_number;
 use crate::shapes::symbols;
 use crate::shapes::users;
-use crate::shapes::verdict_said;
-use crate::shapes::wrong_length;
-use crate::slices::is_filled;
 use arithmetic::Symbol;
-use arithmetic::is_prime;
 use keys::make_table;
+use std::num::wrapping_add_usize;
 use std::num::wrapping_sub_usize;
 use testing::column_sum;
 use testing::draw;
-use testing::fill;
 use testing::mul_add;
 use testing::narrow;
 use testing::power;
@@ -24,12 +25,8 @@ use testing::product;
 use testing::put;
 use testing::quotient;
 use testing::residue;
-use testing::same;
 use testing::seed;
 use vetting::vet;
-
-// U and V from 0 to 9, T from 0 to 17, 12 moduli and 6 generators.
-pub const MAKINGS: usize = 129600;
 
 // The first 3 leave so few powers that plans with many users leak at once.
 fn modulus(n: usize) -> usize {
@@ -60,55 +57,35 @@ fn generator_of(q: usize, n: usize) -> usize {
     }
 }
 
-fn larger(a: usize, b: usize) -> usize {
-    if a > b { a } else { b }
-}
-
 // The larger of V + T and the smaller of U + T - 1 and U V - 1; one is taken off after the choice.
 fn rate(clusters: usize, size: usize, limit: usize) -> usize {
-    let a = clusters % 256 + limit % 256;
-    let b = product(clusters, size) % 65536;
-    let server = if a > b { b } else { a };
-    wrapping_sub_usize(larger(size % 256 + limit % 256 + 1, server), 1)
+    let a = wrapping_add_usize(clusters, limit);
+    let b = product(clusters, size);
+    let server = over(a > b, b, a);
+    let relay = wrapping_add_usize(wrapping_add_usize(size, limit), 1);
+    wrapping_sub_usize(over(relay > server, relay, server), 1)
 }
 
-// The walk is short where there are few users or only small coalitions, or where it soon leaks: other plans take a small q.
-fn is_long(clusters: usize, size: usize, limit: usize) -> bool {
-    product(clusters, size) > 9 && limit > 2
-}
-
-pub fn shape(number: usize) -> Shape {
+// U and V from 0 to 9, T from 0 to 17, 12 moduli; with 6 generators 129,600 cases. The walk is short where there are few users or only small
+// coalitions, or where it soon leaks: other plans take a small q.
+fn shape(number: usize) -> Shape {
     let clusters = number % 10;
     let size = number / 10 % 10;
     let limit = number / 100 % 18;
     let n = number / 1800 % 12;
-    let small = n < 8 && is_long(clusters, size, limit);
+    let small = n < 8 && limit > 2 && product(clusters, size) > 9;
     Shape {
         clusters,
         size,
         limit,
         rate: rate(clusters, size, limit),
-        q: modulus(if small { n % 3 } else { n }),
+        q: modulus(over(small, n % 3, n)),
     }
 }
 
-fn generator(number: usize) -> usize {
-    let s = shape(number);
-    generator_of(s.q, number / 21600)
-}
-
-// The right length, but for one of eight.
-pub fn length(number: usize) -> usize {
-    let n = symbols(shape(number)) % 257;
-    wrong_length(n, draw(seed(number), 16))
-}
-
-// Symbol k of a row that is not the last: 1 and zeros, or powers of the generator's power.
+// Symbol k of row i, which is not the last: 1 and zeros, or powers of the generator's power.
 fn entry(q: usize, generator: usize, i: usize, k: usize) -> usize {
-    if i == 0 && k != 0 {
-        return 0;
-    }
-    power(q, generator, product(i, k))
+    over(i == 0 && k != 0, 0, power(q, generator, product(i, k)))
 }
 
 fn fill_rows(s: Shape, generator: usize, t: &mut [Symbol]) {
@@ -119,55 +96,45 @@ fn fill_rows(s: Shape, generator: usize, t: &mut [Symbol]) {
     }
 }
 
-// The sum of column k, over all rows but the last.
-fn sum_above(s: Shape, t: &[Symbol], k: usize) -> usize {
-    let n = wrapping_sub_usize(users(s), 1);
-    residue(column_sum(t, n, s.rate, k), s.q)
-}
-
+// Minus the sum of each column, over all rows but the last.
 fn fill_last(s: Shape, t: &mut [Symbol]) {
     let many = s.rate;
     let last = wrapping_sub_usize(users(s), 1);
     for k in 0..many {
-        let minus = wrapping_sub_usize(s.q, sum_above(s, t, k));
-        put(t, mul_add(k, last, many), residue(minus, s.q));
+        let sum = residue(column_sum(t, last, many, k), s.q);
+        put(
+            t,
+            mul_add(k, last, many),
+            residue(wrapping_sub_usize(s.q, sum), s.q),
+        );
     }
 }
 
-// The table of a shape that has users.
-pub fn fill_made(s: Shape, generator: usize, t: &mut [Symbol]) {
-    fill_rows(s, generator, t);
-    fill_last(s, t);
+// The table of a shape that has users, and zeros; only zeros where it is not wanted.
+pub fn table(s: Shape, generator: usize, wanted: bool) -> [Symbol; 257] {
+    let mut t = [0 as Symbol; 257];
+    if wanted {
+        fill_rows(s, generator, &mut t);
+        fill_last(s, &mut t);
+    }
+    t
 }
 
-// The maker's order: 1, 2, 3, 10, 4, 7; the last from the table made the other way, if it is needed.
-fn refusal(s: Shape, generator: usize, length: usize, t: &mut [Symbol]) -> usize {
-    if !counts_fit(s) {
-        return plain(1);
-    }
-    if !is_prime(narrow(s.q)) {
-        return plain(2);
-    }
-    if generator >= s.q {
-        return plain(3);
-    }
-    if s.limit % 256 + s.size % 256 >= users(s) {
-        return plain(10);
-    }
-    if length != symbols(s) {
-        return plain(4);
-    }
-    fill_made(s, generator, t);
-    verdict_said(vet(plan_of(s), t))
+// The maker's order: 1, 2, 3, 10, 4, 7; this is all but the last.
+fn refusal(s: Shape, generator: usize, length: usize) -> usize {
+    let size = over(length != symbols(s), 4, 0);
+    let limit = over(wrapping_add_usize(s.limit, s.size) >= users(s), 10, size);
+    counts_number(s, prime_number(s, over(generator >= s.q, 3, limit)))
 }
 
-pub fn made(number: usize, t: &mut [Symbol], other: &mut [Symbol]) -> usize {
-    let s = shape(number);
-    let x = seed(number);
-    let generator = generator(number);
-    fill(t, 65536, x);
-    let expected = refusal(s, generator, t.len(), other);
-    let result = make_table(
+// Whether the table leaks is told from the one made the other way.
+fn judged(s: Shape, generator: usize, t: &mut [Symbol]) -> usize {
+    let first = refusal(s, generator, t.len());
+    let other = table(s, generator, first == 0);
+    let n = clip(t.len(), 257);
+    let vetted = verdict_said(vet(plan_of(s), &other[..n]));
+    let number = over(first > 0, first, vetted);
+    let planned = make_table(
         s.clusters,
         s.size,
         s.limit,
@@ -175,11 +142,13 @@ pub fn made(number: usize, t: &mut [Symbol], other: &mut [Symbol]) -> usize {
         narrow(generator),
         t,
     );
-    let answer = planned_said(result, s);
-    let buffers = if answer == 0 {
-        same(t, other)
-    } else {
-        is_filled(t, 65536, x)
-    };
-    class(answer, expected, buffers)
+    compared(planned_said(planned, s), number, holds(t, number, &other))
+}
+
+// The right length, but for one of eight.
+pub fn made(number: usize) -> usize {
+    let s = shape(number);
+    let n = clip(wrong_length(symbols(s) % 257, draw(seed(number), 16)), 257);
+    let mut t = [65535 as Symbol; 257];
+    judged(s, generator_of(s.q, number / 21600), &mut t[..n])
 }

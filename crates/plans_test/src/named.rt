@@ -1,77 +1,84 @@
-// The constructor of plans, and the cases that document 01 wants run: the edges of q, L and U; and one plan of the largest size.
-use crate::making::fill_made;
-use crate::shapes::DIFFER;
+// Plans: their constructor and checks, and the cases that document 01 wants run: the edges of q, L and U; and one plan of the largest size.
+use crate::individual::dealt;
+use crate::making::table;
+use crate::numbers::clip;
+use crate::numbers::compared;
+use crate::numbers::holds;
+use crate::numbers::is_outside;
+use crate::numbers::over;
+use crate::numbers::planned_said;
+use crate::numbers::verdict_said;
+use crate::numbers::wrong_length;
 use crate::shapes::Shape;
-use crate::shapes::class;
+use crate::shapes::bounds_number;
 use crate::shapes::drawn_shape;
-use crate::shapes::fits;
-use crate::shapes::plain;
 use crate::shapes::plan_of;
-use crate::shapes::planned_said;
-use crate::shapes::verdict_said;
+use crate::shapes::prime_number;
+use crate::shapes::shape_of;
+use crate::shapes::spoil;
+use crate::shapes::symbols;
 use crate::shapes::wrong_shape;
 use arithmetic::Symbol;
-use arithmetic::is_prime;
-use keys::derive_keys;
 use keys::make_table;
 use plans::Plan;
+use plans::check_plan;
+use plans::length_fits;
+use testing::count_large;
+use testing::fill;
 use testing::narrow;
-use testing::same;
 use vetting::vet;
-
-fn new_refusal(s: Shape) -> usize {
-    if !fits(s) {
-        return plain(1);
-    }
-    if !is_prime(narrow(s.q)) {
-        return plain(2);
-    }
-    0
-}
 
 fn new_plan(s: Shape, expected: usize) -> usize {
     let planned = Plan::new(s.clusters, s.size, s.limit, s.rate, narrow(s.q));
-    class(planned_said(planned, s), expected, true)
+    compared(planned_said(planned, s), expected, true)
 }
 
 // All wrong shapes, then drawn ones.
-pub fn constructed(number: usize) -> usize {
-    let s = if number < 144 {
+fn any_shape(number: usize) -> Shape {
+    if number < 144 {
         wrong_shape(number)
     } else {
         drawn_shape(number)
-    };
-    new_plan(s, new_refusal(s))
-}
-
-fn pool(clusters: usize, q: usize) -> Shape {
-    Shape {
-        clusters,
-        size: 2,
-        limit: 1,
-        rate: 3,
-        q,
     }
 }
 
-// Zeros as source symbols: all keys are 0.
-fn pool_keys(positions: usize, table: &[Symbol], source: &[Symbol], keys: &mut [Symbol]) -> usize {
-    verdict_said(derive_keys(plan_of(pool(2, 5)), table, positions, source, keys))
+pub fn constructed(number: usize) -> usize {
+    let s = any_shape(number);
+    new_plan(s, bounds_number(s, prime_number(s, 0)))
+}
+
+// Its bounds alone, and the bounds of a block.
+fn bounds_agree(s: Shape, length: usize) -> bool {
+    let fits = plan_of(s).in_bounds() == (bounds_number(s, 0) == 0);
+    fits && length_fits(length) != is_outside(length, 64)
+}
+
+// A plan with a table: 1, 4, 2, 3.
+fn table_checked(s: Shape, t: &[Symbol], length: usize) -> usize {
+    let large = over(count_large(t, s.q) > 0, 3, 0);
+    let number = over(t.len() != symbols(s), 4, prime_number(s, large));
+    let verdict = check_plan(plan_of(s), t);
+    compared(
+        verdict_said(verdict),
+        bounds_number(s, number),
+        bounds_agree(s, length),
+    )
+}
+
+// The table is right, too long, too short, or has a number that is no symbol.
+pub fn checked(number: usize) -> usize {
+    let s = any_shape(number / 12);
+    let n = clip(wrong_length(symbols(s), number % 4), 257);
+    let mut t = [0 as Symbol; 257];
+    fill(&mut t, s.q, number);
+    spoil(&mut t, number % 256, s.q, number % 3);
+    table_checked(s, &t[..n], number % 70)
 }
 
 // The small pool with blocks of the longest length, of one more, and of none; the blocks have the right length.
 fn length_case(positions: usize, expected: usize) -> usize {
-    let mut table = [0 as Symbol; 12];
-    fill_made(pool(2, 5), 2, &mut table);
-    let source = [0 as Symbol; 195];
-    let mut keys = [0 as Symbol; 260];
-    if positions > 65 {
-        return DIFFER;
-    }
-    let n = positions * 3;
-    let m = positions * 4;
-    class(
-        pool_keys(positions, &table, &source[..n], &mut keys[..m]),
+    compared(
+        dealt(shape_of(2020103, 5), positions, 1, 255),
         expected,
         true,
     )
@@ -79,46 +86,32 @@ fn length_case(positions: usize, expected: usize) -> usize {
 
 // The table's length is wrong too, but 1 comes first.
 fn too_many_clusters() -> usize {
-    let table = [0 as Symbol; 1];
-    class(
-        verdict_said(vet(plan_of(pool(9, 5)), &table)),
-        plain(1),
+    let t = [0 as Symbol; 1];
+    compared(
+        verdict_said(vet(plan_of(shape_of(9020103, 5)), &t)),
+        1,
         true,
     )
 }
 
-fn largest_shape() -> Shape {
-    Shape {
-        clusters: 2,
-        size: 8,
-        limit: 7,
-        rate: 15,
-        q: 65521,
-    }
-}
-
 // 16 users and the largest limit that the maker takes: all coalitions of up to 7 are gone through.
 fn largest() -> usize {
-    let mut table = [0 as Symbol; 240];
-    let mut other = [0 as Symbol; 240];
-    fill_made(largest_shape(), 17, &mut other);
-    let planned = make_table(2, 8, 7, 65521, 17, &mut table);
-    class(
-        planned_said(planned, largest_shape()),
-        0,
-        same(&table, &other),
-    )
+    let s = shape_of(2080715, 65521);
+    let other = table(s, 17, true);
+    let mut t = [0 as Symbol; 240];
+    let planned = make_table(2, 8, 7, 65521, 17, &mut t);
+    compared(planned_said(planned, s), 0, holds(&t, 0, &other))
 }
 
 pub fn named(number: usize) -> usize {
     match number {
-        0 => new_plan(pool(2, 65521), 0),
-        1 => new_plan(pool(2, 65535), plain(2)),
-        2 => new_plan(pool(2, 1), plain(2)),
-        3 => new_plan(pool(9, 5), plain(1)),
+        0 => new_plan(shape_of(2020103, 65521), 0),
+        1 => new_plan(shape_of(2020103, 65535), 2),
+        2 => new_plan(shape_of(2020103, 1), 2),
+        3 => new_plan(shape_of(9020103, 5), 1),
         4 => length_case(64, 0),
-        5 => length_case(65, plain(9)),
-        6 => length_case(0, plain(9)),
+        5 => length_case(65, 9),
+        6 => length_case(0, 9),
         7 => too_many_clusters(),
         _ => largest(),
     }

@@ -1,20 +1,24 @@
 // The reader on records with one byte changed, with bytes missing in front, in the back or added, and with lent tables of all kinds of lengths.
 use crate::format::read_refusal;
 use crate::format::record_byte;
-use crate::format::shape_in;
-use crate::format::symbol_in;
+use crate::format::shape_at;
+use crate::format::start;
+use crate::format::table_at;
+use crate::numbers::clip;
+use crate::numbers::compared;
+use crate::numbers::holds;
+use crate::numbers::over;
+use crate::numbers::planned_said;
 use crate::shapes::Shape;
-use crate::shapes::class;
 use crate::shapes::drawn_shape;
-use crate::shapes::planned_said;
 use crate::shapes::record_size;
 use crate::shapes::symbols;
-use crate::slices::is_filled;
 use arithmetic::Symbol;
 use records::read_record;
+use std::num::wrapping_add_usize;
 use std::num::wrapping_sub_usize;
-use testing::at;
 use testing::byte_at;
+use testing::count_large;
 use testing::draw;
 use testing::drawn;
 use testing::fill;
@@ -49,14 +53,14 @@ fn change(number: usize) -> usize {
 pub fn damaged(number: usize) -> Reading {
     let record = number / 4 % 16;
     let size = record_size(drawn_shape(record)) % 65536;
-    let skip = draw(seed(number), 65) % 65;
+    let skip = draw(seed(number), 65);
     let length = wrapping_sub_usize(size + 64, skip);
     Reading {
         number,
         record,
         skip,
         length,
-        place: wrapping_sub_usize(wrapping_sub_usize(length, 1), residue(number / 64, size)),
+        place: wrapping_sub_usize(length, residue(number / 64, size) % 65536 + 1),
         change: change(number),
         lent: 256,
     }
@@ -68,17 +72,13 @@ pub fn cut(number: usize) -> Reading {
     let size = record_size(drawn_shape(record)) % 65536;
     let x = seed(number);
     let back = draw(x, 7) == 0;
-    let skip = if back { 0 } else { draw(step(x), 100) % 100 };
-    let length = if back {
-        draw(seed(x), size + 70) % 600
-    } else {
-        (size + 64) % 600
-    };
+    let skip = over(back, 0, draw(step(x), 100));
+    let end = over(back, draw(seed(x), size + 70), size + 64);
     Reading {
         number,
         record,
         skip,
-        length: if length < skip { 0 } else { length - skip },
+        length: over(end < skip, 0, wrapping_sub_usize(end, skip)),
         place: 1000,
         change: 0,
         lent: 256,
@@ -99,67 +99,58 @@ fn lent_length(kind: usize, count: usize) -> usize {
 pub fn lent(number: usize) -> Reading {
     let record = number / 8 % 512;
     let s = drawn_shape(record);
-    let size = record_size(s) % 65536;
+    let size = record_size(s);
     Reading {
         number,
         record,
         skip: 64,
         length: size,
         place: draw(seed(number), size),
-        change: if number % 2 == 0 { 0 } else { 1 },
+        change: number % 2,
         lent: lent_length(number % 8, symbols(s)),
     }
 }
 
-// Byte j of the drawn bytes, the record, and drawn bytes again.
-fn stream_byte(s: Shape, t: &[Symbol], j: usize, x: usize) -> usize {
-    if j < 64 {
-        return drawn(x, j);
-    }
-    let place = j - 64;
-    if place >= record_size(s) {
-        return drawn(x, j);
-    }
-    record_byte(s, t, place)
-}
-
+// The record stands after 64 drawn bytes; after it there are drawn bytes again.
 fn fill_buffer(s: Shape, t: &[Symbol], b: &mut [u8], skip: usize, x: usize) {
+    let size = record_size(s);
     for i in 0..b.len() {
-        put_byte(b, i, stream_byte(s, t, i % 65536 + skip % 65536, x));
+        let j = wrapping_add_usize(skip, i);
+        let place = wrapping_sub_usize(j, 64);
+        put_byte(
+            b,
+            i,
+            over(place < size, record_byte(s, t, place), drawn(x, j)),
+        );
     }
 }
 
-// Whether the lent table holds the record's symbols and zeros.
-fn holds_symbols(lent: &[Symbol], b: &[u8]) -> bool {
-    for k in 0..lent.len() {
-        if at(lent, k) != symbol_in(b, k) {
-            return false;
-        }
-    }
-    true
-}
-
-pub fn table_length(c: Reading) -> usize {
-    symbols(drawn_shape(c.record))
+fn buffer(c: Reading) -> [u8; 600] {
+    let s = drawn_shape(c.record);
+    let x = seed(c.number);
+    let mut t = [0 as Symbol; 256];
+    let mut b = [0u8; 600];
+    fill(&mut t, s.q, x);
+    fill_buffer(s, &t, &mut b, c.skip, x);
+    let changed = wrapping_add_usize(byte_at(&b, c.place), c.change);
+    put_byte(&mut b, c.place, changed);
+    b
 }
 
 // What the library says of the buffer, and what it does to the lent table.
-fn judged(b: &[u8], lent: &mut [Symbol], x: usize) -> usize {
-    let answer = planned_said(read_record(b, lent), shape_in(b));
-    let buffers = if answer == 0 {
-        holds_symbols(lent, b)
-    } else {
-        is_filled(lent, 65536, x)
-    };
-    class(answer, read_refusal(b, lent.len()), buffers)
+fn judged(b: &[u8], lent: &mut [Symbol]) -> usize {
+    let first = start(b);
+    let s = shape_at(b, first);
+    let t = table_at(b, first, s);
+    let number = read_refusal(s, count_large(&t, s.q), b.len(), first, lent.len());
+    let answer = planned_said(read_record(b, lent), s);
+    compared(answer, number, holds(lent, number, &t))
 }
 
-pub fn read(c: Reading, t: &mut [Symbol], b: &mut [u8], lent: &mut [Symbol]) -> usize {
-    let s = drawn_shape(c.record);
-    let x = seed(c.number);
-    fill(t, s.q, x);
-    fill_buffer(s, t, b, c.skip, x);
-    put_byte(b, c.place, byte_at(b, c.place) % 256 + c.change % 256);
-    fill(lent, 65536, x);
-    judged(b, lent, x)
+pub fn read(c: Reading) -> usize {
+    let b = buffer(c);
+    let n = clip(c.length, 600);
+    let m = clip(c.lent, 257);
+    let mut lent = [65535 as Symbol; 257];
+    judged(&b[..n], &mut lent[..m])
 }

@@ -1,13 +1,13 @@
 use borrow.Author.Needs.{needs}
-use Prim.Native.Nat.{_≤_, _-_}
+use Prim.Native.Nat.{_-_, _≤_}
 use Rattle.plans_test.proofs.main.Statement.{statement}
 use Rattle.plans_test.proofs.main.Tie as tie
 
 abbrev Inv-loop : tie.InvT-loop
-Inv-loop total₀ group₀ total group = group ≤ 9
+Inv-loop kind₀ t2 kind = kind ≤ 9
 
 abbrev μ-loop : tie.MeasureT-loop
-μ-loop total₀ group₀ total group = 9 - group
+μ-loop kind₀ t2 kind = 9 - kind
 
 pub main-spec : {M : Type 1} → statement M
 main-spec =
@@ -15,6 +15,7 @@ main-spec =
     (tie.spec
     Inv-loop
     μ-loop
+    (search needs)
     (search needs)
     (search needs)
     (search needs)

@@ -1,15 +1,13 @@
 use borrow.Author.Needs.{needs}
-use mathlib.Core.Path.{_≡_}
-use Prim.Native.Nat.{_≤_, _-_}
-use lib.ListN.{length}
+use Prim.Native.Nat.{_-_}
 use Rattle.plans_test.proofs.individual.are_keys.Statement.{statement}
 use Rattle.plans_test.proofs.individual.are_keys.Tie as tie
 
 abbrev Inv-loop : tie.InvT-loop
-Inv-loop s t source keys many x₀ x-end x = (x ≤ x-end) × (x-end ≡ length keys)
+Inv-loop s t source keys many number x₀ x-end x = Unit {0}
 
 abbrev μ-loop : tie.MeasureT-loop
-μ-loop s t source keys many x₀ x-end x = x-end - x
+μ-loop s t source keys many number x₀ x-end x = x-end - x
 
 pub are-keys-spec : {M : Type 1} → statement M
 are-keys-spec =
@@ -17,6 +15,7 @@ are-keys-spec =
     (tie.spec
     Inv-loop
     μ-loop
+    (search needs)
     (search needs)
     (search needs)
     (search needs)

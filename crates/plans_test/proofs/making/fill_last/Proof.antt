@@ -1,12 +1,12 @@
 use borrow.Author.Needs.{needs}
-use mathlib.Core.Path.{_≡_}
-use Prim.Native.Nat.{_≤_, _-_}
+use Prim.Native.Nat.{_-_}
 use lib.ListN.{length}
+use mathlib.Core.Path.{_≡_}
 use Rattle.plans_test.proofs.making.fill_last.Statement.{statement}
 use Rattle.plans_test.proofs.making.fill_last.Tie as tie
 
 abbrev Inv-loop : tie.InvT-loop
-Inv-loop s t₀ many last k₀ t k = (k ≤ many) × (length t ≡ length t₀)
+Inv-loop s t₀ many last k₀ t k = length t ≡ length t₀
 
 abbrev μ-loop : tie.MeasureT-loop
 μ-loop s t₀ many last k₀ t k = many - k
@@ -17,6 +17,7 @@ fill-last-spec =
     (tie.spec
     Inv-loop
     μ-loop
+    (search needs)
     (search needs)
     (search needs)
     (search needs)
