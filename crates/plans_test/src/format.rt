@@ -1,5 +1,4 @@
 // The format of records another way: each byte by its place, and a reader that works on the bytes' numbers.
-use crate::numbers::over;
 use crate::shapes::Shape;
 use crate::shapes::bounds_number;
 use crate::shapes::prime_number;
@@ -12,6 +11,7 @@ use testing::at;
 use testing::byte_at;
 use testing::count_large;
 use testing::mul_add;
+use testing::over;
 use testing::put;
 use testing::word_at;
 

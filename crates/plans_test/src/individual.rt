@@ -1,9 +1,6 @@
 // Individual keys: sums in 64 bits from the last symbol to the first, reduced once.
 use crate::making::table;
-use crate::numbers::clip;
 use crate::numbers::compared;
-use crate::numbers::is_outside;
-use crate::numbers::over;
 use crate::numbers::verdict_said;
 use crate::numbers::wrong_length;
 use crate::shapes::Shape;
@@ -15,10 +12,13 @@ use crate::shapes::users;
 use arithmetic::Symbol;
 use keys::derive_keys;
 use testing::at;
+use testing::clip;
 use testing::count_large;
 use testing::draw;
 use testing::fill;
+use testing::is_outside;
 use testing::mul_add;
+use testing::over;
 use testing::product;
 use testing::put;
 use testing::quotient;

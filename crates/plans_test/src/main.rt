@@ -10,8 +10,8 @@ mod shapes;
 mod writing;
 
 use libc::STDOUT_FILENO;
-use numbers::clip;
 use std::num::wrapping_add_usize;
+use testing::clip;
 use testing::product;
 
 fn outcome(kind: usize, number: usize) -> usize {

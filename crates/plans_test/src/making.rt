@@ -1,8 +1,6 @@
 // The table maker, for all counts up to one past the bounds: powers by repeated multiplication, and sums of whole columns.
-use crate::numbers::clip;
 use crate::numbers::compared;
 use crate::numbers::holds;
-use crate::numbers::over;
 use crate::numbers::planned_said;
 use crate::numbers::verdict_said;
 use crate::numbers::wrong_length;
@@ -16,10 +14,12 @@ use arithmetic::Symbol;
 use keys::make_table;
 use std::num::wrapping_add_usize;
 use std::num::wrapping_sub_usize;
+use testing::clip;
 use testing::column_sum;
 use testing::draw;
 use testing::mul_add;
 use testing::narrow;
+use testing::over;
 use testing::power;
 use testing::product;
 use testing::put;

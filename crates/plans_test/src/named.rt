@@ -1,11 +1,8 @@
 // Plans: their constructor and checks, and the cases that document 01 wants run: the edges of q, L and U; and one plan of the largest size.
 use crate::individual::dealt;
 use crate::making::table;
-use crate::numbers::clip;
 use crate::numbers::compared;
 use crate::numbers::holds;
-use crate::numbers::is_outside;
-use crate::numbers::over;
 use crate::numbers::planned_said;
 use crate::numbers::verdict_said;
 use crate::numbers::wrong_length;
@@ -23,9 +20,12 @@ use keys::make_table;
 use plans::Plan;
 use plans::check_plan;
 use plans::length_fits;
+use testing::clip;
 use testing::count_large;
 use testing::fill;
+use testing::is_outside;
 use testing::narrow;
+use testing::over;
 use vetting::vet;
 
 fn new_plan(s: Shape, expected: usize) -> usize {

@@ -1,34 +1,16 @@
 // Lengths, what the library says as one number, and what a comparison says.
 // Every function takes every number, so that a loop that calls it has nothing to show.
-ghost use Prim.Native.Nat.{_≤_};
 use crate::shapes::Shape;
 use arithmetic::Symbol;
 use plans::Planned;
 use refusals::Code;
 use refusals::Verdict;
-use std::num::wrapping_sub_usize;
 use testing::at;
+use testing::over;
 use testing::wide;
 
 // What a comparison says where the two differ; otherwise it says the number that was answered.
 pub const DIFFER: usize = 15;
-
-// The smaller of the two.
-pub fn clip(n: usize, most: usize) -> usize
-    ensures { λ r. ⌜ r ≤ most ⌝ }
-{
-    if n > most { most } else { n }
-}
-
-// By this what is refused is told from the last fault to the first: a fault overrules what was found before.
-pub fn over(fault: bool, number: usize, otherwise: usize) -> usize {
-    if fault { number } else { otherwise }
-}
-
-// Whether a is none of 1 to n. One less than 0 is the largest number.
-pub fn is_outside(a: usize, n: usize) -> bool {
-    wrapping_sub_usize(a, 1) >= n
-}
 
 // One too long, one too short, or right; what is empty can only be too long.
 pub fn wrong_length(n: usize, kind: usize) -> usize {

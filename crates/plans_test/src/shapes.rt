@@ -1,11 +1,11 @@
 // Counts and moduli, right ones drawn, and wrong ones.
-use crate::numbers::is_outside;
-use crate::numbers::over;
 use arithmetic::Symbol;
 use arithmetic::is_prime;
 use plans::Plan;
 use testing::draw;
+use testing::is_outside;
 use testing::narrow;
+use testing::over;
 use testing::prime;
 use testing::product;
 use testing::put;

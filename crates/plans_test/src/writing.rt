@@ -1,10 +1,8 @@
 // The writer of records: right and wrong inputs in all combinations, then drawn plans. What is written is read back.
 use crate::format::record_byte;
 use crate::format::write_refusal;
-use crate::numbers::clip;
 use crate::numbers::compared;
 use crate::numbers::holds;
-use crate::numbers::over;
 use crate::numbers::planned_said;
 use crate::numbers::verdict_said;
 use crate::numbers::wrong_length;
@@ -19,8 +17,10 @@ use arithmetic::Symbol;
 use records::read_record;
 use records::write_record;
 use testing::byte_at;
+use testing::clip;
 use testing::draw;
 use testing::fill;
+use testing::over;
 use testing::seed;
 
 // Whether the buffer is the record; where it is refused, 238 everywhere, as before.

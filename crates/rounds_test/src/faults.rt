@@ -1,12 +1,12 @@
 // What is refused, by the paper's orders, from the last fault to the first.
-use crate::numbers::over;
 use arithmetic::Symbol;
 use rounds::RelayRound;
 use rounds::Round;
 use std::num::wrapping_add_usize;
-use std::num::wrapping_sub_usize;
 use testing::at;
 use testing::count_large;
+use testing::is_outside;
+use testing::over;
 use testing::power;
 use testing::product;
 use testing::quotient;
@@ -15,11 +15,6 @@ use testing::wide;
 // How many may report: relays to the server, users to a relay.
 pub fn senders(server: bool, round: Round) -> usize {
     over(server, round.clusters, round.size)
-}
-
-// Whether a is none of 1 to n. One less than 0 is the largest number.
-pub fn is_outside(a: usize, n: usize) -> bool {
-    wrapping_sub_usize(a, 1) >= n
 }
 
 // The primes that are tried; all other numbers that are tried are none.

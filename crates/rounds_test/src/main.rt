@@ -1,6 +1,6 @@
-// Holds the libraries rounds, masking and streams to a second implementation, written another way. Writes how often each number was answered (0: nothing is refused) where
-// the two agree, and how often they differ: in the number, its details, the state, the position, or what a buffer holds after the call.
-// A case is made of its number alone, so that each can be looked at by itself.
+// Holds the libraries rounds, masking and streams to a second implementation, written another way. Writes how often each number was answered (0: nothing
+// is refused) where the two agree, and how often they differ: in the number, its details, the state, the position, or what a buffer holds after the
+// call. A case is made of its number alone, so that each can be looked at by itself.
 mod draws;
 mod faults;
 mod masks;
@@ -13,8 +13,8 @@ mod steps;
 mod turns;
 
 use libc::STDOUT_FILENO;
-use numbers::clip;
 use std::num::wrapping_add_usize;
+use testing::clip;
 use testing::product;
 
 // The last is no kind of its own: frames, with a mistake in what is expected.

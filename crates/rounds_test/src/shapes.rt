@@ -1,6 +1,5 @@
 // What a round is for: the plan's counts, q and L, the relay's cluster (0 at the server) and the round's number; and blocks of symbols.
 use crate::numbers::one_in;
-use crate::numbers::over;
 use crate::numbers::pick;
 use arithmetic::Symbol;
 use rounds::RelayRound;
@@ -9,6 +8,7 @@ use std::num::wrapping_add_usize;
 use std::num::wrapping_sub_usize;
 use testing::fill;
 use testing::narrow;
+use testing::over;
 use testing::prime;
 use testing::put;
 use testing::seed;

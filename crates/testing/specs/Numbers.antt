@@ -1,9 +1,9 @@
 -- Numbers drawn from a seed, and arithmetic. All are shut, so that a caller's proof meets short names only.
 use Prim.Native.Nat.{ℕ, zero, suc, _+_, _*_, _/_, _%_}
-use mathlib.Core.Bool.{Bool, cond}
+use mathlib.Core.Bool.{Bool, cond, _||_}
 use mathlib.Core.List.{List, [], _∷_}
 use lib.Bits.{bitXor}
-use lib.Dec.{eqb}
+use lib.Dec.{eqb, ltb}
 use lib.ListN.{getD}
 use Rattle.arithmetic.specs.Field.{residue}
 
@@ -39,6 +39,16 @@ divisorsOf q = howMany q (λ d. eqb (residueOf (d + 1) q) 0)
 
 unfoldable pub primeOf : ℕ → ℕ
 primeOf n = getD (2 ∷ 3 ∷ 5 ∷ 7 ∷ 257 ∷ 65519 ∷ []) n 65521
+
+-- the smaller of two numbers; a number, or another one where there is a fault; is a none of 1 to n?
+unfoldable pub clipOf : ℕ → ℕ → ℕ
+clipOf n most = cond (ltb most n) most n
+
+unfoldable pub overOf : Bool → ℕ → ℕ → ℕ
+overOf fault number otherwise = cond fault number otherwise
+
+unfoldable pub outsideOf : ℕ → ℕ → Bool
+outsideOf a n = ltb a 1 || ltb n a
 
 -- ---- numbers drawn
 

@@ -3,11 +3,14 @@
 mod numbers;
 mod slices;
 
+pub use numbers::clip;
 pub use numbers::divisors;
 pub use numbers::draw;
 pub use numbers::drawn;
+pub use numbers::is_outside;
 pub use numbers::mul_add;
 pub use numbers::narrow;
+pub use numbers::over;
 pub use numbers::power;
 pub use numbers::prime;
 pub use numbers::product;

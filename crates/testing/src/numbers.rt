@@ -2,7 +2,7 @@
 ghost use mathlib.Core.Path.{_≡_};
 ghost use Prim.Native.Nat.{_*_, _≤_};
 ghost use Rattle.testing.specs.Numbers.{residueOf, quotientOf, low, lowProduct, mulAddOf, powerOf, divisorsOf, primeOf};
-ghost use Rattle.testing.specs.Numbers.{stepOf, seedOf, drawOf, stateOf, drawnOf};
+ghost use Rattle.testing.specs.Numbers.{stepOf, seedOf, drawOf, stateOf, drawnOf, clipOf, overOf, outsideOf};
 use arithmetic::Symbol;
 
 // The next state, of 32 bits: the upper half is mixed into the lower one, and by the product the lower into the upper, so that no two runs of states keep
@@ -114,6 +114,31 @@ pub fn prime(n: usize) -> usize
         5 => 65519,
         _ => 65521,
     }
+}
+
+// The smaller of the two.
+pub fn clip(n: usize, most: usize) -> usize
+    ensures exact { λ r. ⌜ r ≡ clipOf n most ⌝ }
+    ensures fits { λ r. ⌜ r ≤ most ⌝ }
+{
+    if n > most { most } else { n }
+}
+
+// By this what is refused is told from the last fault to the first: a fault overrules what was found before.
+pub fn over(fault: bool, number: usize, otherwise: usize) -> usize
+    ensures { λ r. ⌜ r ≡ overOf fault number otherwise ⌝ }
+{
+    if fault { number } else { otherwise }
+}
+
+// Whether a is none of 1 to n.
+pub fn is_outside(a: usize, n: usize) -> bool
+    ensures { λ r. ⌜ r ≡ outsideOf a n ⌝ }
+{
+    if a < 1 {
+        return true;
+    }
+    a > n
 }
 
 pub fn wide(a: Symbol) -> usize
