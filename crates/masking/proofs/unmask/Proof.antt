@@ -39,8 +39,8 @@ pub unmask-spec : {M : Type 1} → statement M
 unmask-spec =
     tie.close
     (tie.spec
-    (search needs)
-    (search needs)
+    (λ c κs. tt)
+    (λ c κs. tt)
     write-unmasked-requires
     (search needs)
     returns

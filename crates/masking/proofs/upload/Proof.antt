@@ -39,8 +39,8 @@ pub upload-spec : {M : Type 1} → statement M
 upload-spec =
     tie.close
     (tie.spec
-    (search needs)
-    (search needs)
+    (λ c κs. tt)
+    (λ c κs. tt)
     write-upload-requires
     (search needs)
     returns

@@ -16,7 +16,7 @@ sixty-four : (c : tie.Start) → length (c .args .self .sums) ≡ 64
 sixty-four c = search needs
 
 returns : tie.Need-returns
-returns c = simp (bits-above _ _ (c .if1 .taken))
+returns c = rw (bits-above _ _ (c .if1 .taken))
 
 array-share-prefix-sums : tie.Need-array-share-prefix-sums
 array-share-prefix-sums c = omega (arith, sixty-four (c .before .before .before), c .before .before .before .pre .1)
@@ -41,13 +41,13 @@ below-is c e = sym (e ∙ ap (allBelow 1) (past c))
 returns-2 : tie.Need-returns-2
 returns-2 c =
     let b = bits-below _ _ (c .before .before .before .before .if1 .left) in
-    ⊎-elim (λ w. simp (b, sym (c .before .all-below .ensures) ∙ not-true _ (w .taken)))
-    (λ w. simp (b, sym (c .before .all-below .ensures) ∙ not-false _ (w .0 .left), below-is (c .before .before .before .before .before .before) (w .3 .ensures) ∙ not-true _ (w .4 .taken)))
+    ⊎-elim (λ w. rw (b, sym (c .before .all-below .ensures) ∙ not-true _ (w .taken)))
+    (λ w. rw (b, sym (c .before .all-below .ensures) ∙ not-false _ (w .0 .left), below-is (c .before .before .before .before .before .before) (w .3 .ensures) ∙ not-true _ (w .4 .taken)))
     (c .if2 .came)
 
 returns-3 : tie.Need-returns-3
 returns-3 c =
-    simp (
+    rw (
       bits-below _ _ (c .before .before .before .before .before .before .before .before .if1 .left),
       sym (c .before .before .before .before .before .all-below .ensures) ∙ not-false _ (c .before .before .before .before .if2 .left),
       below-is (c .before .before .before .before .before .before .before .before .before .before) (c .before .all-below2 .ensures) ∙ not-false _ (c .if3 .left),
@@ -57,17 +57,17 @@ pub check-contents-spec : {M : Type 1} → statement M
 check-contents-spec =
     tie.close
     (tie.spec
-    (search needs)
-    (search needs)
-    (search needs)
+    (λ c. omega arith)
+    (λ c. omega arith)
+    (λ c. omega arith)
     returns
     array-share-prefix-sums
     slice-aggregate-all-below
-    (search needs)
-    (search needs)
-    (search needs)
-    (search needs)
+    (λ c κs. tt)
+    (λ c. omega arith)
+    (λ c. omega arith)
+    (λ c. omega arith)
     part-all-below-end
-    (search needs)
+    (λ c κs. tt)
     returns-2
     returns-3)

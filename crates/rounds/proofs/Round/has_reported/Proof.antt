@@ -1,6 +1,6 @@
+use native.Mathlib.Omega.{arith}
 use Prim.Native.Nat.{_-_, _/_, _^_}
 use lib.Bits.{and-mask}
-use borrow.Author.Needs.{needs}
 use Rattle.rounds.specs.Rounds.{hasBit}
 use Rattle.rounds.proofs.Round.has_reported.Statement.{statement}
 use Rattle.rounds.proofs.Round.has_reported.Tie as tie
@@ -10,4 +10,4 @@ unfolding hasBit
 returns c = rw (and-mask (c .before .args .self .reported / 2 ^ (c .before .args .sender - 1)) 1)
 
 pub has-reported-spec : {M : Type 1} → statement M
-has-reported-spec = tie.close (tie.spec (search needs) (search needs) (search needs) (search needs) returns)
+has-reported-spec = tie.close (tie.spec (λ c. omega arith) (λ c. omega arith) (λ c. omega arith) (λ c. omega arith) returns)
