@@ -1,6 +1,7 @@
 use mathlib.Core.Path.{_≡_, ap, _∙_}
 use mathlib.Core.List.{List, _++_}
-use Prim.Native.Nat.{ℕ, _+_, _-_, _*_, _≤_}
+use Prim.Native.Nat.{ℕ, _+_, _-_, _*_, _≤_, zero-le}
+use native.Mathlib.Nat.{add-mul, le-add-right, sub-zero, add-sub-cancel-left}
 use native.Mathlib.Omega.{arith}
 use lib.ListN.{length}
 use Rattle.secrecy.specs.Lists.{tab, joinTo}
@@ -10,7 +11,6 @@ use Rattle.vetting.specs.Walking.{clusterSum, baseTable}
 use Rattle.plans.proofs.PlanBounds.{Bounds, bounds-known}
 use Rattle.secrecy.proofs.Joins.{length-join}
 use Rattle.vetting.proofs.BaseLaws.{base-room, copy-length, both-length, both-front}
-use borrow.Author.Needs.{needs}
 use Rattle.vetting.proofs.walk.set_base.Statement.{statement}
 use Rattle.vetting.proofs.walk.set_base.Tie as tie
 
@@ -38,7 +38,7 @@ part-sum-rows-end c =
     let s = c .before .before .before .before .before .before .before .before .before in
     let P = s .args .plan in
     let n : ℕ = usersOf P * P .rate in
-    omega (arith, room s, copy-length n (P .clusters * P .rate) (n - 0) (n + P .clusters * P .rate - n) (s .args .levels .now) (s .args .table .now) _ (omega arith) (omega arith) (s .pre .1) (room s) (c .before .before .copy .ensures))
+    omega (arith, room s, copy-length n (P .clusters * P .rate) (n - 0) (n + P .clusters * P .rate - n) (s .args .levels .now) (s .args .table .now) _ (sub-zero _) (add-sub-cancel-left _ _) (s .pre .1) (room s) (c .before .before .copy .ensures))
 
 returns : tie.Need-returns
 unfolding baseTable
@@ -51,8 +51,8 @@ returns c =
     let y : List ℕ = c .before .before .sum-rows .last .1 .1 .1 .1 .1 .0 in
     let told : y ≡ joinTo (P .clusters) (λ u. tab (P .rate) (clusterSum (P .q) (P .size) (P .rate) K u)) = c .before .before .sum-rows .ensures in
     let l : length y ≡ m = ap length told ∙ length-join (P .rate) (λ u. tab (P .rate) (clusterSum (P .q) (P .size) (P .rate) K u)) (λ u. length-tab (P .rate) (clusterSum (P .q) (P .size) (P .rate) K u)) (P .clusters) in (
-      both-length n m (n - 0) (n + m - n) (s .args .levels .now) K _ (omega arith) (omega arith) (s .pre .1) (room s) (c .before .before .before .before .before .before .copy .ensures) y l ∙ s .pre .3,
-      both-front n m (n - 0) (n + m - n) (s .args .levels .now) K _ (omega arith) (omega arith) (s .pre .1) (room s) (c .before .before .before .before .before .before .copy .ensures) y ((usersOf P + P .clusters) * P .rate) l (omega arith)
+      both-length n m (n - 0) (n + m - n) (s .args .levels .now) K _ (sub-zero _) (add-sub-cancel-left _ _) (s .pre .1) (room s) (c .before .before .before .before .before .before .copy .ensures) y l ∙ s .pre .3,
+      both-front n m (n - 0) (n + m - n) (s .args .levels .now) K _ (sub-zero _) (add-sub-cancel-left _ _) (s .pre .1) (room s) (c .before .before .before .before .before .before .copy .ensures) y ((usersOf P + P .clusters) * P .rate) l (add-mul _ _ _)
           ∙ ap (λ (x : List ℕ). K ++ x) told,
     )
 
@@ -61,17 +61,17 @@ set-base-spec =
     tie.close
     (tie.spec
     mul-n
-    (search needs)
+    (λ c. omega arith)
     mul-e
     add-e
-    (search needs)
-    (search needs)
+    (λ c. zero-le)
+    (λ c. zero-le)
     part-copy-end
-    (search needs)
-    (search needs)
-    (search needs)
-    (search needs)
+    (λ c κs. tt)
+    (λ c. omega arith)
+    (λ c. le-add-right _ _)
+    (λ c. le-add-right _ _)
     part-sum-rows-end
-    (search needs)
-    (search needs)
+    (λ c κs. (c .before .before .before .before .before .before .before .before .before .before .pre .2, omega arith, omega arith))
+    (λ c. c .before .levels2 .given .1 ∙ c .before .before .before .before .before .levels .given .1)
     returns)
