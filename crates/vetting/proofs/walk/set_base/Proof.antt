@@ -1,7 +1,9 @@
-use mathlib.Core.Path.{_≡_, ap, _∙_}
+use mathlib.Core.Path.{_≡_, sym, ap, _∙_, subst}
 use mathlib.Core.List.{List, _++_}
 use Prim.Native.Nat.{ℕ, _+_, _-_, _*_, _≤_, zero-le}
-use native.Mathlib.Nat.{add-mul, le-add-right, sub-zero, add-sub-cancel-left}
+use mir.Facts.{fits-le, fits-lit}
+use lib.Dec.{lit≤}
+use native.Mathlib.Nat.{add-mul, le-trans, le-add-left, le-add-right, sub-zero, add-sub-cancel-left}
 use native.Mathlib.Omega.{arith}
 use lib.ListN.{length}
 use Rattle.secrecy.specs.Lists.{tab, joinTo}
@@ -19,19 +21,13 @@ within s = bounds-known (s .args .plan) (s .pre .0)
 
 -- the first level has room
 room : (s : tie.Start) → (let P = s .args .plan in usersOf P * P .rate + P .clusters * P .rate ≤ length (s .args .levels .now))
-room s = omega (arith, base-room (s .args .plan) (within s), s .pre .3)
-
-mul-n : tie.Need-mul-n
-mul-n c = omega (arith, within (c .before .before .before) .counts .few-users)
+room s = le-trans (base-room (s .args .plan) (within s)) (subst (λ (n : ℕ). 384 ≤ n) (sym (s .pre .3)) (lit≤ tt))
 
 mul-e : tie.Need-mul-e
-mul-e c = omega (arith, base-room (c .before .before .before .before .before .args .plan) (within (c .before .before .before .before .before)))
+mul-e c = fits-le (le-trans (le-add-left _ _) (base-room (c .before .before .before .before .before .args .plan) (within (c .before .before .before .before .before)))) (fits-lit tt)
 
 add-e : tie.Need-add-e
-add-e c = omega (arith, base-room (c .before .before .before .before .before .args .plan) (within (c .before .before .before .before .before)))
-
-part-copy-end : tie.Need-part-copy-end
-part-copy-end c = omega (arith, room (c .before .before .before .before .before))
+add-e c = fits-le (base-room (c .before .before .before .before .before .args .plan) (within (c .before .before .before .before .before))) (fits-lit tt)
 
 part-sum-rows-end : tie.Need-part-sum-rows-end
 part-sum-rows-end c =
@@ -60,13 +56,13 @@ pub set-base-spec : {M : Type 1} → statement M
 set-base-spec =
     tie.close
     (tie.spec
-    mul-n
+    (λ c. fits-le (within (c .before .before .before) .counts .few-users) (fits-lit tt))
     (λ c. omega arith)
     mul-e
     add-e
     (λ c. zero-le)
     (λ c. zero-le)
-    part-copy-end
+    (λ c. le-trans (le-add-right _ _) (room (c .before .before .before .before .before)))
     (λ c κs. tt)
     (λ c. omega arith)
     (λ c. le-add-right _ _)
