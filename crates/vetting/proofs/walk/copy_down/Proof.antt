@@ -1,5 +1,4 @@
 -- The invariant: the first j symbols are copied.
-use borrow.Author.Needs.{needs}
 use mathlib.Core.Path.{_≡_, sym, ap, _∙_}
 use mathlib.Core.List.{List}
 use Prim.Native.Nat.{ℕ, _+_, _-_, _≤_, _<_}
@@ -65,14 +64,14 @@ copy-down-spec =
     Inv-loop
     μ-loop
     loop-holds
-    (search needs)
-    (search needs)
+    (λ c. omega arith)
+    (λ c. omega arith)
     slice-read-levels
-    (search needs)
-    (search needs)
+    (λ c. omega arith)
+    (λ c. omega arith)
     slice-write-levels
-    (search needs)
-    (search needs)
+    (λ c. omega arith)
+    (λ c. omega arith)
     loop-again
     same-length
     returns)

@@ -1,7 +1,7 @@
-use borrow.Author.Needs.{needs}
 use mathlib.Core.Path.{_≡_, ap, _∙_}
 use mathlib.Core.List.{List, _++_}
 use Prim.Native.Nat.{ℕ, _+_, _-_, _*_, _≤_}
+use native.Mathlib.Nat.{le-add-right, add-sub-cancel-left}
 use native.Mathlib.Omega.{arith}
 use lib.ListN.{length, take, drop, length-drop}
 use lib.Seq.{paste, length-paste}
@@ -43,7 +43,7 @@ returns c =
     let m : ℕ = d + n - d in
     let E = eliminated (a .q) (a .rows) (a .cols) (a .i) in
     let P : List ℕ = c .before .before .before .before .before .before .copy-down .last .0 in
-    let em : m ≡ n = omega arith in
+    let em : m ≡ n = add-sub-cancel-left d n in
     let ha : d - 384 + n ≤ length L = omega (arith, size s, s .pre .0, s .pre .3, s .pre .4) in
     let hb : d + n ≤ length L = omega (arith, size s, s .pre .0, s .pre .4) in
     let ea : d - 384 ≡ (a .k - 1) * 384 = omega (arith, s .pre .3) in
@@ -57,14 +57,14 @@ descend-spec =
     tie.close
     (tie.spec
     mul-n
-    (search needs)
-    (search needs)
+    (λ c. omega arith)
+    (λ c. omega arith)
     add-e
     copy-down-requires
-    (search needs)
-    (search needs)
-    (search needs)
+    (λ c. omega arith)
+    (λ c. le-add-right _ _)
+    (λ c. le-add-right _ _)
     part-eliminate-end
-    (search needs)
-    (search needs)
+    (λ c κs. tt)
+    (λ c. c .before .levels2 .given .1 ∙ c .before .before .before .before .before .levels .given)
     returns)

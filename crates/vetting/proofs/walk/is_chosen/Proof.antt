@@ -3,7 +3,7 @@ use mathlib.Core.Path.{refl, sym, _∙_}
 use Prim.Native.Nat.{_/_, _%_, _^_}
 use lib.Bits.{and-mask}
 use Rattle.secrecy.specs.Model.{inCoalition}
-use borrow.Author.Needs.{needs}
+use native.Mathlib.Omega.{arith}
 use Rattle.vetting.proofs.walk.is_chosen.Statement.{statement}
 use Rattle.vetting.proofs.walk.is_chosen.Tie as tie
 
@@ -20,4 +20,4 @@ returns-2 c =
     rw (ne-eqb (a .watch / 2 ^ a .i % 2) 1 (λ e. c .if1 .left (and-mask (a .watch / 2 ^ a .i) 1 ∙ e)))
 
 pub is-chosen-spec : {M : Type 1} → statement M
-is-chosen-spec = tie.close (tie.spec (search needs) (search needs) returns returns-2)
+is-chosen-spec = tie.close (tie.spec (λ c. omega arith) (λ c. omega arith) returns returns-2)

@@ -5,7 +5,6 @@ use native.Mathlib.Omega.{arith}
 use lib.Pow.{pow-pos}
 use lib.Bits.{and-mask}
 use Rattle.secrecy.proofs.BitLaws.{one-shl}
-use borrow.Author.Needs.{needs}
 use Rattle.vetting.proofs.walk.is_open.Statement.{statement}
 use Rattle.vetting.proofs.walk.is_open.Tie as tie
 
@@ -16,4 +15,4 @@ returns : tie.Need-returns
 returns c = rw (one-shl 32 (c .args .size) (omega arith), one-mul (2 ^ c .args .size), and-mask (c .args .g / 2 ^ (c .args .u * c .args .size)) (c .args .size)) refl
 
 pub is-open-spec : {M : Type 1} → statement M
-is-open-spec = tie.close (tie.spec (search needs) sub-all (search needs) (search needs) returns)
+is-open-spec = tie.close (tie.spec (λ c. omega arith) sub-all (λ c. omega arith) (λ c. omega arith) returns)

@@ -1,6 +1,7 @@
 use mathlib.Core.Path.{_≡_, ap, ap₂, _∙_}
 use mathlib.Core.List.{List}
 use Prim.Native.Nat.{ℕ, _+_, _-_, _*_, _≤_}
+use native.Mathlib.Nat.{le-add-right, add-sub-cancel-left}
 use native.Mathlib.Omega.{arith}
 use lib.Count.{ones, ones-le}
 use lib.ListN.{take, drop}
@@ -40,7 +41,7 @@ returns c =
     let a = c .before .before .before .before .args in
     let b : ℕ = ones (a .g) * 384 in
     let n : ℕ = (a .clusters * a .size + a .clusters) * a .cols in
-    let e : b + n - b ≡ n = omega arith in
+    let e : b + n - b ≡ n = add-sub-cancel-left b n in
     c .are-dependent .ensures
     ∙ ap₂ (λ (m : ℕ) (X : List ℕ). dependent (a .q) (a .clusters * a .size + a .clusters) (a .cols) m (a .g) X) (c .before .before .watch-mask .ensures)
     (ap (λ (k : ℕ). take k (drop b (a .levels .now))) e)
@@ -49,18 +50,18 @@ pub leaks-to-spec : {M : Type 1} → statement M
 leaks-to-spec =
     tie.close
     (tie.spec
-    (search needs)
-    (search needs)
-    (search needs)
-    (search needs)
-    (search needs)
+    (λ c. omega arith)
+    (λ c. omega arith)
+    (λ c. omega arith)
+    (λ c. omega arith)
+    (λ c κs. (c .before .pre .1, c .before .pre .2, c .before .pre .3, c .before .pre .5))
     cast-b
     mul-b
     mul-e
     add-e
     mul-are-dependent
-    (search needs)
-    (search needs)
+    (λ c. le-add-right _ _)
+    (λ c. le-add-right _ _)
     part-are-dependent-end
     (search needs)
     returns)

@@ -1,6 +1,9 @@
-use mathlib.Core.Path.{_≡_, ap, _∙_}
+use mathlib.Core.Path.{_≡_, sym, ap, _∙_, subst}
 use mathlib.Core.List.{List, _++_}
-use Prim.Native.Nat.{ℕ, _+_, _-_, _*_, _≤_}
+use Prim.Native.Nat.{ℕ, _+_, _-_, _*_, _≤_, zero-le}
+use mir.Facts.{fits-le, fits-lit}
+use lib.Dec.{lit≤}
+use native.Mathlib.Nat.{add-mul, le-trans, le-add-left, le-add-right, sub-zero, add-sub-cancel-left}
 use native.Mathlib.Omega.{arith}
 use lib.ListN.{length}
 use Rattle.secrecy.specs.Lists.{tab, joinTo}
@@ -10,7 +13,6 @@ use Rattle.vetting.specs.Walking.{clusterSum, baseTable}
 use Rattle.plans.proofs.PlanBounds.{Bounds, bounds-known}
 use Rattle.secrecy.proofs.Joins.{length-join}
 use Rattle.vetting.proofs.BaseLaws.{base-room, copy-length, both-length, both-front}
-use borrow.Author.Needs.{needs}
 use Rattle.vetting.proofs.walk.set_base.Statement.{statement}
 use Rattle.vetting.proofs.walk.set_base.Tie as tie
 
@@ -19,26 +21,20 @@ within s = bounds-known (s .args .plan) (s .pre .0)
 
 -- the first level has room
 room : (s : tie.Start) → (let P = s .args .plan in usersOf P * P .rate + P .clusters * P .rate ≤ length (s .args .levels .now))
-room s = omega (arith, base-room (s .args .plan) (within s), s .pre .3)
-
-mul-n : tie.Need-mul-n
-mul-n c = omega (arith, within (c .before .before .before) .counts .few-users)
+room s = le-trans (base-room (s .args .plan) (within s)) (subst (λ (n : ℕ). 384 ≤ n) (sym (s .pre .3)) (lit≤ tt))
 
 mul-e : tie.Need-mul-e
-mul-e c = omega (arith, base-room (c .before .before .before .before .before .args .plan) (within (c .before .before .before .before .before)))
+mul-e c = fits-le (le-trans (le-add-left _ _) (base-room (c .before .before .before .before .before .args .plan) (within (c .before .before .before .before .before)))) (fits-lit tt)
 
 add-e : tie.Need-add-e
-add-e c = omega (arith, base-room (c .before .before .before .before .before .args .plan) (within (c .before .before .before .before .before)))
-
-part-copy-end : tie.Need-part-copy-end
-part-copy-end c = omega (arith, room (c .before .before .before .before .before))
+add-e c = fits-le (base-room (c .before .before .before .before .before .args .plan) (within (c .before .before .before .before .before))) (fits-lit tt)
 
 part-sum-rows-end : tie.Need-part-sum-rows-end
 part-sum-rows-end c =
     let s = c .before .before .before .before .before .before .before .before .before in
     let P = s .args .plan in
     let n : ℕ = usersOf P * P .rate in
-    omega (arith, room s, copy-length n (P .clusters * P .rate) (n - 0) (n + P .clusters * P .rate - n) (s .args .levels .now) (s .args .table .now) _ (omega arith) (omega arith) (s .pre .1) (room s) (c .before .before .copy .ensures))
+    omega (arith, room s, copy-length n (P .clusters * P .rate) (n - 0) (n + P .clusters * P .rate - n) (s .args .levels .now) (s .args .table .now) _ (sub-zero _) (add-sub-cancel-left _ _) (s .pre .1) (room s) (c .before .before .copy .ensures))
 
 returns : tie.Need-returns
 unfolding baseTable
@@ -51,8 +47,8 @@ returns c =
     let y : List ℕ = c .before .before .sum-rows .last .1 .1 .1 .1 .1 .0 in
     let told : y ≡ joinTo (P .clusters) (λ u. tab (P .rate) (clusterSum (P .q) (P .size) (P .rate) K u)) = c .before .before .sum-rows .ensures in
     let l : length y ≡ m = ap length told ∙ length-join (P .rate) (λ u. tab (P .rate) (clusterSum (P .q) (P .size) (P .rate) K u)) (λ u. length-tab (P .rate) (clusterSum (P .q) (P .size) (P .rate) K u)) (P .clusters) in (
-      both-length n m (n - 0) (n + m - n) (s .args .levels .now) K _ (omega arith) (omega arith) (s .pre .1) (room s) (c .before .before .before .before .before .before .copy .ensures) y l ∙ s .pre .3,
-      both-front n m (n - 0) (n + m - n) (s .args .levels .now) K _ (omega arith) (omega arith) (s .pre .1) (room s) (c .before .before .before .before .before .before .copy .ensures) y ((usersOf P + P .clusters) * P .rate) l (omega arith)
+      both-length n m (n - 0) (n + m - n) (s .args .levels .now) K _ (sub-zero _) (add-sub-cancel-left _ _) (s .pre .1) (room s) (c .before .before .before .before .before .before .copy .ensures) y l ∙ s .pre .3,
+      both-front n m (n - 0) (n + m - n) (s .args .levels .now) K _ (sub-zero _) (add-sub-cancel-left _ _) (s .pre .1) (room s) (c .before .before .before .before .before .before .copy .ensures) y ((usersOf P + P .clusters) * P .rate) l (add-mul _ _ _)
           ∙ ap (λ (x : List ℕ). K ++ x) told,
     )
 
@@ -60,18 +56,18 @@ pub set-base-spec : {M : Type 1} → statement M
 set-base-spec =
     tie.close
     (tie.spec
-    mul-n
-    (search needs)
+    (λ c. fits-le (within (c .before .before .before) .counts .few-users) (fits-lit tt))
+    (λ c. omega arith)
     mul-e
     add-e
-    (search needs)
-    (search needs)
-    part-copy-end
-    (search needs)
-    (search needs)
-    (search needs)
-    (search needs)
+    (λ c. zero-le)
+    (λ c. zero-le)
+    (λ c. le-trans (le-add-right _ _) (room (c .before .before .before .before .before)))
+    (λ c κs. tt)
+    (λ c. omega arith)
+    (λ c. le-add-right _ _)
+    (λ c. le-add-right _ _)
     part-sum-rows-end
-    (search needs)
-    (search needs)
+    (λ c κs. (c .before .before .before .before .before .before .before .before .before .before .pre .2, omega arith, omega arith))
+    (λ c. c .before .levels2 .given .1 ∙ c .before .before .before .before .before .levels .given .1)
     returns)

@@ -31,9 +31,9 @@ watch-mask-spec =
     tie.close
     (tie.spec
     (search needs)
-    (search needs)
-    (search needs)
-    (search needs)
+    (λ c. omega arith)
+    (λ c. omega arith)
+    (λ c. omega arith)
     cluster-mask-requires
     returns
     returns-2)
