@@ -35,7 +35,7 @@ pub fn symbol_difference(q: u64, a: u64, b: u64) -> u64 {
     if off <= a {
         a - off
     } else {
-        wrapping_add_u64(a, q - off)
+        wrapping_add_u64(a, wrapping_sub_u64(q, off))
     }
 }
 
