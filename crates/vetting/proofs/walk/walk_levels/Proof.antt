@@ -64,7 +64,7 @@ kept c =
     let g : ℕ = c .before .walk .g in
     let a = c .before .before .before .args in
     let i = c .before .walk .inv in
-    ap (firstHit (hit (plan (a .clusters) (a .size) (a .limit) (a .cols) (a .q)) (base (a .clusters) (a .size) (a .cols) (a .levels .now)))) (sym (pairs-kept (a .clusters * a .size) (a .limit) (a .clusters) g (i .0) (c .if1 .taken))) ∙ i .2
+    ap (firstHit (hit (plan (a .clusters) (a .size) (a .limit) (a .cols) (a .q)) (base (a .clusters) (a .size) (a .cols) (a .levels .now)))) (sym (pairs-kept (a .clusters * a .size) (a .limit) (a .clusters) g (i .0) (omega (arith, c .if1 .taken)))) ∙ i .2
 
 -- each level up to that of g is right
 full : (c : tie.Joined2 Inv-loop μ-loop Inv-walk μ-walk)
@@ -80,7 +80,7 @@ full c =
     ⊎-elim
     (λ w.
     subst (λ (X : List ℕ). Full (a .q) rows (a .cols) (a .limit) T X g) (sym (w .5 ∙ w .2 .ensures))
-    (full-step (a .q) rows (a .cols) (a .limit) T L g (pos-of-ne-zero (w .0 .taken)) (small (c .before .before)) (rows-few s) (s .pre .4) H (c .before .if1 .taken)))
+    (full-step (a .q) rows (a .cols) (a .limit) T L g (pos-of-ne-zero (w .0 .taken)) (small (c .before .before)) (rows-few s) (s .pre .4) H (omega (arith, c .before .if1 .taken))))
     (λ w.
     let z : 0 ≡ g = sym (w .0 .left) in
     subst (λ (X : List ℕ). Full (a .q) rows (a .cols) (a .limit) T X g) (sym (w .1))
@@ -100,7 +100,7 @@ tested c =
     let G = full d in
     c .leaks-to .ensures
     ∙ ap (dependent (a .q) rows (a .cols) (watchMask (a .clusters) (a .size) g w) g)
-    (full-at (a .q) rows (a .cols) (a .limit) (base (a .clusters) (a .size) (a .cols) (a .levels .now)) (d .if2 .levels) g (d .before .if1 .taken) G
+    (full-at (a .q) rows (a .cols) (a .limit) (base (a .clusters) (a .size) (a .cols) (a .levels .now)) (d .if2 .levels) g (omega (arith, d .before .if1 .taken)) G
     ∙ ap (λ (X : List ℕ). tableOf (a .q) rows (a .cols) X g) (sym (G .base)))
 
 -- after a coalition, looked at or not
