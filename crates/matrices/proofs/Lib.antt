@@ -1,3 +1,4 @@
+pub mod Notions
 pub mod Vectors
 pub mod Spans
 pub mod Duality

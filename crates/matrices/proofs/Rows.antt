@@ -14,7 +14,8 @@ use Rattle.arithmetic.specs.Field.{residue, oppositeOf}
 use Rattle.arithmetic.specs.Primes.{allBelow}
 use Rattle.arithmetic.proofs.Congruence.{Cong, of-eq, of-rem, c-refl, c-trans, c-add, c-mul-left, c-mul-right, residue-mod, of-residue}
 use Rattle.arithmetic.proofs.PrimeLaws.{below-at}
-use Rattle.matrices.specs.Linear.{at, Vector, dotN, zeros}
+use Rattle.matrices.specs.Linear.{at, Vector, zeros}
+use Rattle.matrices.proofs.Notions.{dotN}
 use Rattle.matrices.specs.Tables.{rowOf, rowsOf, pivotOf, scaled, fused, cleared, eachRow}
 use Rattle.matrices.proofs.Vectors.{vector-nil, vector-cons}
 use Rattle.matrices.proofs.Steps.{row-fits, length-row}

@@ -8,24 +8,10 @@ use lib.ListN.{length, getD, replicate}
 abbrev pub at : List ℕ → ℕ → ℕ
 at r i = getD r i 0
 
--- each member of a list has the property
-abbrev pub All : {A : Type 0} → (A → Type 0) → List A → Type 0
-All P [] = Unit {0}
-All P (x ∷ l) = P x × All P l
-
 -- n numbers below q
 pub record Vector (q n : ℕ) (r : List ℕ) : Type 0 where
   pub size : length r ≡ n
   pub small : (i : ℕ) → i < n → at r i < q
-
--- the sum of the products of two rows, and the same modulo q
-abbrev pub dotN : List ℕ → List ℕ → ℕ
-dotN [] y = 0
-dotN (a ∷ x) [] = 0
-dotN (a ∷ x) (b ∷ y) = a * b + dotN x y
-
-abbrev pub dot : ℕ → List ℕ → List ℕ → ℕ
-dot q x y = dotN x y % q
 
 -- the sum of two rows (a missing number is 0), and a multiple of one
 abbrev pub add : List ℕ → List ℕ → List ℕ
@@ -51,39 +37,3 @@ combN n (c ∷ cs) (s ∷ S) = add (scale c s) (combN n cs S)
 
 abbrev pub comb : ℕ → ℕ → List ℕ → List (List ℕ) → List ℕ
 comb q n cs S = reduce q (combN n cs S)
-
--- some coefficients combine the rows S to r
-pub record InSpan (q n : ℕ) (S : List (List ℕ)) (r : List ℕ) : Type 0 where
-  pub coefficients : List ℕ
-  pub one-each : length coefficients ≡ length S
-  pub makes : comb q n coefficients S ≡ r
-
--- M is orthogonal to each of the rows S, and has the product 1 with r
-pub record Separated (q n : ℕ) (S : List (List ℕ)) (r : List ℕ) : Type 0 where
-  pub M : List ℕ
-  pub valid : Vector q n M
-  pub orthogonal : All (λ s. dot q s M ≡ 0) S
-  pub one : dot q r M ≡ 1
-
--- no row of C is in the span of the rows G and the rows of C before it
-abbrev pub Independent : ℕ → ℕ → List (List ℕ) → List (List ℕ) → Type 0
-Independent q n G [] = Unit {0}
-Independent q n G (c ∷ C) = (InSpan q n G c → ⊥) × Independent q n (G ++ (c ∷ [])) C
-
--- N has the product 0 with each of G, and the products d with the rows of C
-pub record Solution (q n : ℕ) (G C : List (List ℕ)) (d : List ℕ) : Type 0 where
-  pub N : List ℕ
-  pub valid : Vector q n N
-  pub none : All (λ g. dot q g N ≡ 0) G
-  pub hits : map (λ c. dot q c N) C ≡ d
-
--- only coefficients that are 0 combine the rows to 0
-abbrev pub LinearlyIndependent : ℕ → ℕ → List (List ℕ) → Type 0
-LinearlyIndependent q n S =
-    (cs : List ℕ) → length cs ≡ length S → comb q n cs S ≡ zeros n → All (λ c. c % q ≡ 0) cs
-
--- some of the rows S, in their order
-pub data Selection : List (List ℕ) → List (List ℕ) → Type 0 where
-  none : Selection [] []
-  take : {c : List ℕ} {C S : List (List ℕ)} → Selection C S → Selection (c ∷ C) (c ∷ S)
-  skip : {c : List ℕ} {C S : List (List ℕ)} → Selection C S → Selection C (c ∷ S)

@@ -19,7 +19,8 @@ use Rattle.arithmetic.specs.Search.{allTo}
 use Rattle.arithmetic.specs.Primes.{allBelow}
 use Rattle.arithmetic.proofs.Searches.{T→true, true→T, all-at}
 use Rattle.arithmetic.proofs.PrimeLaws.{prime-pos, at-below}
-use Rattle.matrices.specs.Linear.{at, All, zeros}
+use Rattle.matrices.specs.Linear.{at, zeros}
+use Rattle.matrices.proofs.Notions.{All}
 use Rattle.secrecy.specs.Lists.{tab}
 use Rattle.secrecy.specs.Counts.{sumTo}
 use Rattle.secrecy.proofs.Sums.{sum-cong, sum-zero}

@@ -11,7 +11,8 @@ use lib.Seq.{getD-take}
 use borrow.Author.Tests.{eq-eqb, le-leb}
 use Rattle.refusals.specs.Codes.{code, accepted, firstOf}
 use Rattle.arithmetic.proofs.Congruence.{Cong, to-mod, of-eq, of-rem, c-refl, c-trans, c-add}
-use Rattle.matrices.specs.Linear.{at, All, dotN}
+use Rattle.matrices.specs.Linear.{at}
+use Rattle.matrices.proofs.Notions.{All, dotN}
 use Rattle.secrecy.specs.Lists.{tab}
 use Rattle.secrecy.specs.Counts.{sumTo}
 use Rattle.secrecy.specs.Model.{Pool, users, reading, key, upload, relaySum, total}

@@ -12,7 +12,8 @@ use lib.Arith.{digits-lt, digits-div}
 use Rattle.arithmetic.specs.Search.{anyTo, allTo}
 use Rattle.arithmetic.proofs.Searches.{T-and, and-T, T-decide, any-found, any-at, all-at, not-all}
 use Rattle.arithmetic.proofs.Congruence.{Cong, of-eq, c-trans, cong-zero}
-use Rattle.matrices.specs.Linear.{at, dotN}
+use Rattle.matrices.specs.Linear.{at}
+use Rattle.matrices.proofs.Notions.{dotN}
 use Rattle.matrices.proofs.Vectors.{dot-reduce}
 use Rattle.secrecy.specs.Counts.{sumTo}
 use Rattle.secrecy.specs.Model.{Pool, users, inCoalition}

@@ -9,7 +9,8 @@ use lib.ListN.{length, length-append}
 use lib.Dec.{T}
 use lib.Arith.{digits-lt}
 use Rattle.arithmetic.proofs.Congruence.{to-mod, of-eq, of-rem, c-sym, c-trans, c-add}
-use Rattle.matrices.specs.Linear.{at, dotN, dot, zeros}
+use Rattle.matrices.specs.Linear.{at, zeros}
+use Rattle.matrices.proofs.Notions.{dotN, dot}
 use Rattle.matrices.proofs.Vectors.{dot-zeros, dot-reduce}
 use Rattle.secrecy.specs.Lists.{tab, picked}
 use Rattle.secrecy.specs.Counts.{howMany}

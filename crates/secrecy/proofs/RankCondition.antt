@@ -7,7 +7,8 @@ use lib.Dec.{ltb}
 use Rattle.arithmetic.specs.Search.{anyTo, allTo}
 use Rattle.arithmetic.specs.Primes.{Prime}
 use Rattle.arithmetic.proofs.PrimeLaws.{prime-pos}
-use Rattle.matrices.specs.Linear.{at, All, Vector, reduce}
+use Rattle.matrices.specs.Linear.{at, Vector, reduce}
+use Rattle.matrices.proofs.Notions.{All}
 use Rattle.matrices.proofs.Vectors.{vector-reduce}
 use Rattle.secrecy.specs.Lists.{tab, picked}
 use Rattle.secrecy.specs.Counts.{sumTo}

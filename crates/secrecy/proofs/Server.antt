@@ -12,7 +12,8 @@ use lib.Arith.{digits-lt}
 use Rattle.arithmetic.specs.Primes.{Prime}
 use Rattle.arithmetic.proofs.Searches.{T-decide}
 use Rattle.arithmetic.proofs.Congruence.{Cong, to-mod, of-eq, of-mod, c-refl, c-sym, c-trans, c-add, c-mul-left, cong-zero, zero-cong, minus-number}
-use Rattle.matrices.specs.Linear.{All, Vector, dotN, dot, Independent}
+use Rattle.matrices.specs.Linear.{Vector}
+use Rattle.matrices.proofs.Notions.{All, dotN, dot, Independent}
 use Rattle.matrices.proofs.Vectors.{all-both}
 use Rattle.secrecy.specs.Lists.{picked}
 use Rattle.secrecy.specs.Counts.{sumTo}

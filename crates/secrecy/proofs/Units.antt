@@ -9,7 +9,8 @@ use native.Mathlib.Omega.{arith}
 use lib.ListN.{length, set, length-set}
 use lib.Seq.{getD-set-same, getD-set-other}
 use Rattle.arithmetic.proofs.Congruence.{Cong, of-eq, c-refl, c-trans, c-add, c-mul-right}
-use Rattle.matrices.specs.Linear.{at, Vector, dotN, add, scale, zeros, reduce}
+use Rattle.matrices.specs.Linear.{at, Vector, add, scale, zeros, reduce}
+use Rattle.matrices.proofs.Notions.{dotN}
 use Rattle.matrices.proofs.Vectors.{dot-add, dot-added, dot-zeros, dot-right, dot-reduced, el-add, el-zeros, el-left, el-reduce}
 use Rattle.matrices.proofs.Vectors.{length-add, length-scale, length-zeros, vector-reduce}
 use Rattle.secrecy.specs.Lists.{tab}

@@ -10,7 +10,8 @@ use lib.ListN.{length}
 use lib.Dec.{T}
 use Rattle.arithmetic.specs.Primes.{Prime}
 use Rattle.arithmetic.proofs.PrimeLaws.{prime-pos}
-use Rattle.matrices.specs.Linear.{Vector, Independent}
+use Rattle.matrices.specs.Linear.{Vector}
+use Rattle.matrices.proofs.Notions.{Independent}
 use Rattle.matrices.specs.Rank.{rankOver, rankOf}
 use Rattle.matrices.proofs.RankLaws.{rank-append, full-rank-iff}
 use Rattle.secrecy.specs.Model.{Pool, users, inCluster, view}

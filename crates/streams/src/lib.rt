@@ -84,8 +84,8 @@ pub fn draw(
 
 // The same with plain parameters: a position is made here and lent to the draw, so that callers need no proof over a reference to a struct.
 pub fn draw_from(stream: &[Symbol], at: usize, length: usize, out: &mut [Symbol]) -> Drawn
-    ensures { λ r. ⌜ (verdictCode (r .answer) ≡ drawCode (now (stream .entry)) at length (now (out .entry)))
-        × (r .at ≡ positionAfter (now (stream .entry)) at length (now (out .entry)))
+    ensures { λ made. ⌜ (verdictCode (made .answer) ≡ drawCode (now (stream .entry)) at length (now (out .entry)))
+        × (made .at ≡ positionAfter (now (stream .entry)) at length (now (out .entry)))
         × (now (out .exit) ≡ bufferAfter (now (stream .entry)) at length (now (out .entry))) ⌝ }
 {
     let mut position = Position { at: at };

@@ -12,7 +12,8 @@ use Rattle.refusals.specs.Codes.{firstOf}
 use Rattle.arithmetic.specs.Primes.{Prime, allBelow}
 use Rattle.arithmetic.proofs.Searches.{T-ext, T-decide, true→T}
 use Rattle.arithmetic.proofs.PrimeLaws.{prime-pos, below-at}
-use Rattle.matrices.specs.Linear.{All, Vector, Independent}
+use Rattle.matrices.specs.Linear.{Vector}
+use Rattle.matrices.proofs.Notions.{All, Independent}
 use Rattle.matrices.specs.Tables.{rowOf}
 use Rattle.matrices.proofs.Vectors.{all-map}
 use Rattle.matrices.proofs.Elimination.{Table}

@@ -12,7 +12,8 @@ use Rattle.refusals.proofs.CodeLaws.{numbered}
 use Rattle.arithmetic.specs.Primes.{Prime, allBelow}
 use Rattle.arithmetic.proofs.Searches.{T-decide, T→true, true→T, not-T→false}
 use Rattle.arithmetic.proofs.PrimeLaws.{prime-pos, below-at}
-use Rattle.matrices.specs.Linear.{All, Vector}
+use Rattle.matrices.specs.Linear.{Vector}
+use Rattle.matrices.proofs.Notions.{All}
 use Rattle.matrices.proofs.Vectors.{all-map, all-right}
 use Rattle.secrecy.specs.Model.{view}
 use Rattle.secrecy.specs.Leaks.{number, leaks, Symbols, Leak, Agrees, PairLeak}

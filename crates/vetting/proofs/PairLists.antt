@@ -9,7 +9,7 @@ use native.Mathlib.Omega.{arith}
 use lib.Dec.{T, leb, leb→le}
 use borrow.Author.Tests.{le-leb}
 use Rattle.arithmetic.proofs.Searches.{true→T}
-use Rattle.matrices.specs.Linear.{All}
+use Rattle.matrices.proofs.Notions.{All}
 use Rattle.matrices.proofs.Vectors.{all-append, all-left, all-right}
 use Rattle.secrecy.specs.Lists.{tab, joinTo, picked}
 use Rattle.secrecy.specs.Counts.{howMany}

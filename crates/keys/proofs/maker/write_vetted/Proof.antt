@@ -37,6 +37,12 @@ found c =
     ∙ ap (verdict P) (c .before .before .before .before .fill-table .ensures)
     ∙ made-verdict P (s .args .generator) (bounds-known P (s .pre .0)) (true-prime (P .q) (s .pre .1)) (s .pre .2) (s .pre .0)
 
+returns-2 : tie.Need-returns-2
+returns-2 c =
+    let v = c .before .before in
+    let s = v .before .before .before .before .before .before .before .before in
+    (found v, sym (old-kept (verdictCode (v .vet .result)) (made s) (s .args .table .now) (sym (c .before .is-accepted .ensures) ∙ c .if1 .left)))
+
 returns : tie.Need-returns
 returns c =
     let v = c .before .before .before .before .before .before .before in
@@ -46,12 +52,6 @@ returns c =
     let copied = copied-whole built lent _ (c .before .before .copy .ensures) (v .before .before .before .built .given ∙ s .pre .3 ∙ sym (s .pre .4)) in
     let accepts = sym (c .before .before .before .before .before .before .is-accepted .ensures) ∙ c .before .before .before .before .before .if1 .taken in
     (found v, copied ∙ v .before .before .before .before .fill-table .ensures ∙ sym (new-taken (verdictCode (v .vet .result)) (made s) lent accepts))
-
-returns-2 : tie.Need-returns-2
-returns-2 c =
-    let v = c .before .before in
-    let s = v .before .before .before .before .before .before .before .before in
-    (found v, sym (old-kept (verdictCode (v .vet .result)) (made s) (s .args .table .now) (sym (c .before .is-accepted .ensures) ∙ c .if1 .left)))
 
 pub write-vetted-spec : {M : Type 1} → statement M
 write-vetted-spec =

@@ -38,13 +38,6 @@ part-all-below-end c = let l : length (c .before .before .before .before .before
 below-is : (c : tie.Start) {r : Bool} → (let R = c .args .self in r ≡ allBelow 1 (take (64 - R .length) (drop (R .length) (R .sums))) → allBelow 1 (drop (R .length) (R .sums)) ≡ r)
 below-is c e = sym (e ∙ ap (allBelow 1) (past c))
 
-returns-2 : tie.Need-returns-2
-returns-2 c =
-    let b = bits-below _ _ (c .before .before .before .before .if1 .left) in
-    ⊎-elim (λ w. rw (b, sym (c .before .all-below .ensures) ∙ not-true _ (w .taken)))
-    (λ w. rw (b, sym (c .before .all-below .ensures) ∙ not-false _ (w .0 .left), below-is (c .before .before .before .before .before .before) (w .3 .ensures) ∙ not-true _ (w .4 .taken)))
-    (c .if2 .came)
-
 returns-3 : tie.Need-returns-3
 returns-3 c =
     rw (
@@ -52,6 +45,13 @@ returns-3 c =
       sym (c .before .before .before .before .before .all-below .ensures) ∙ not-false _ (c .before .before .before .before .if2 .left),
       below-is (c .before .before .before .before .before .before .before .before .before .before) (c .before .all-below2 .ensures) ∙ not-false _ (c .if3 .left),
     )
+
+returns-2 : tie.Need-returns-2
+returns-2 c =
+    let b = bits-below _ _ (c .before .before .before .before .if1 .left) in
+    ⊎-elim (λ w. rw (b, sym (c .before .all-below .ensures) ∙ not-true _ (w .taken)))
+    (λ w. rw (b, sym (c .before .all-below .ensures) ∙ not-false _ (w .0 .left), below-is (c .before .before .before .before .before .before) (w .3 .ensures) ∙ not-true _ (w .4 .taken)))
+    (c .if2 .came)
 
 pub check-contents-spec : {M : Type 1} → statement M
 check-contents-spec =
