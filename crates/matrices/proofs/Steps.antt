@@ -8,7 +8,7 @@ use native.Mathlib.Numerals.{add-one}
 use native.Mathlib.Omega.{arith}
 use lib.Dec.{eqb, ltb}
 use lib.ListN.{length, getD, take, drop, set, drop-of-length-le, length-append, length-drop, take-append-drop}
-use lib.Seq.{drop-cons, take-suc, take-suc-set, drop-set-lt, take-all, take-at, drop-at, length-take-le, getD-take, getD-drop}
+use lib.Seq.{drop-cons, take-suc-set, drop-set-lt, take-all, take-at, drop-at, length-take-le, getD-take, getD-drop}
 use borrow.Author.Tests.{eq-eqb, ne-eqb, lt-ltb, le-leb}
 use Rattle.arithmetic.specs.Field.{oppositeOf, productOf, mulAddOf, inverseOf}
 use Rattle.matrices.specs.Tables.{rowOf, pivotOf, scaled, fused, cleared, pivotRow, eachRow, hasPivot, clearedBy, eliminatedFrom, reducedFrom, pivotsFrom}
@@ -72,14 +72,6 @@ fuse-next q m r s W k h l e =
     let t : drop (k + 1) (set r k v) ≡ drop (k + 1) r = drop-set-lt (k + 1) r k v (omega arith) in
     ap (λ (x : List ℕ). take (k + 1) (set r k v) ++ fused q m x (drop (k + 1) s)) t
     ∙ filled r (fused q m (drop (k + 1) r) (drop (k + 1) s)) W k v h (ap (λ (x : List ℕ). take k r ++ x) (sym (fuse-step q m r s k h l)) ∙ e)
-
-pub copy-next : (A B : List ℕ) (j : ℕ) → j < length A → length B ≡ length A → take j B ≡ take j A → take (j + 1) (set B j (getD A j 0)) ≡ take (j + 1) A
-copy-next A B j h l e =
-    rw (add-one j)
-    (take-suc-set B j (getD A j 0) (omega arith) ∙ ap (λ (X : List ℕ). X ++ (getD A j 0 ∷ [])) e ∙ sym (take-suc A j 0 h))
-
-pub copy-done : (A B : List ℕ) (j : ℕ) → length A ≤ j → length B ≡ length A → take j B ≡ take j A → B ≡ A
-copy-done A B j h l e = sym (take-all j B (omega arith)) ∙ e ∙ take-all j A h
 
 -- ---- sizes
 

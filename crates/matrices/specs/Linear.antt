@@ -1,6 +1,6 @@
 -- Linear algebra modulo q. A row is a list of numbers, a matrix a list of rows; n is the number of columns.
 use mathlib.Core.Path.{_≡_}
-use mathlib.Core.List.{List, [], _∷_, _++_, map}
+use mathlib.Core.List.{List, [], _∷_, map}
 use Prim.Native.Nat.{ℕ, _+_, _*_, _%_, _<_}
 use lib.ListN.{length, getD, replicate}
 

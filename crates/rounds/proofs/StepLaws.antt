@@ -3,14 +3,13 @@ use Prim.Native.Nat.{ℕ, zero, suc, _+_, _-_, _%_, _^_, _≤_, _<_}
 use mathlib.Core.Path.{_≡_, refl, sym, ap, ap₂, _∙_}
 use mathlib.Core.Bool.{Bool, true, false, cond, _&&_, _||_}
 use mathlib.Core.Logic.{_≢_}
-use mathlib.Core.List.{List, [], _∷_, _++_}
+use mathlib.Core.List.{List, [], _∷_}
 use native.Mathlib.Nat.{add-zero, lt-suc-self}
-use native.Mathlib.Numerals.{add-one}
 use native.Mathlib.Decide.{ℕ-discrete, decLt}
 use native.Mathlib.Omega.{arith}
 use lib.Dec.{ltb}
 use lib.ListN.{length, take, drop, set, length-set}
-use lib.Seq.{getD-drop, getD-set-same, getD-set-other, take-suc, take-suc-set}
+use lib.Seq.{getD-drop, getD-set-same, getD-set-other}
 use borrow.Author.Tests.{lt-ltb, le-ltb}
 use Rattle.arithmetic.specs.Search.{allTo}
 use Rattle.arithmetic.specs.Primes.{allBelow}
@@ -43,12 +42,6 @@ unfolding named
 heard-bits senders R =
     all-cong senders (hasBit (R .reported)) (λ i. hasReported R [] (suc i))
     (λ i l. sym (or-none (hasBit (R .reported) (suc i - 1)) ∙ ap (hasBit (R .reported)) (omega arith)))
-
--- ---- sums that are copied
-
-pub copy-next : (out W : List ℕ) (k : ℕ) → k < length out → k < length W → take k out ≡ take k W → take (k + 1) (set out k (at W k)) ≡ take (k + 1) W
-copy-next out W k h l p =
-    rw (add-one k) (take-suc-set out k (at W k) h ∙ ap (λ (x : List ℕ). x ++ (at W k ∷ [])) p ∙ sym (take-suc W k 0 l))
 
 -- ---- sums that are added to, position by position
 

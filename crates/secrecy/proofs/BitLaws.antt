@@ -2,9 +2,8 @@
 use mathlib.Core.Path.{_≡_, refl, sym, ap, ap₂, _∙_, subst}
 use mathlib.Core.Bool.{Bool, true, false, cond, _&&_, and-false}
 use mathlib.Core.Logic.{_⊎_, inl, inr, ⊎-elim}
-use mathlib.Core.List.{List, [], _∷_}
 use Prim.Native.Nat.{ℕ, zero, suc, _+_, _-_, _*_, _/_, _%_, _^_, _≤_, _<_}
-use native.Mathlib.Nat.{mod-eq-of-lt, mod-lt, mod-one, pow-suc, add-comm, add-zero, zero-add, mul-comm, mul-assoc, one-mul, zero-div, div-one, div-eq-of-lt, div-div-eq-div-mul, div-eq-of-lt-le, div-add-mod', add-mul-div-right, lt-of-lt-of-le}
+use native.Mathlib.Nat.{mod-eq-of-lt, mod-lt, mod-one, pow-suc, add-comm, add-zero, mul-comm, mul-assoc, one-mul, div-eq-of-lt, div-div-eq-div-mul, div-eq-of-lt-le, div-add-mod', add-mul-div-right, lt-of-lt-of-le}
 use native.Mathlib.Numerals.{one-add}
 use native.Mathlib.Decide.{ℕ-discrete, decLt}
 use native.Mathlib.Omega.{arith}

@@ -18,3 +18,4 @@ mod LeakTest
 pub mod BitLaws
 pub mod Joins
 pub mod RunningSum
+pub mod Filling

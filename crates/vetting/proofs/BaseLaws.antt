@@ -1,17 +1,17 @@
 -- The table of level 0: sums modulo q one number at a time, rows one symbol at a time, and the key table with the sums below it.
 use mathlib.Core.Path.{_≡_, refl, sym, ap, _∙_}
 use mathlib.Core.Bool.{Bool, cond}
-use mathlib.Core.List.{List, [], _∷_, _++_, append-assoc}
-use Prim.Native.Nat.{ℕ, zero, suc, _+_, _*_, _%_, _≤_, _<_}
+use mathlib.Core.List.{List, [], _++_, append-assoc}
+use Prim.Native.Nat.{ℕ, _+_, _*_, _%_, _≤_, _<_}
 use native.Mathlib.Nat.{mul-le-mul}
 use native.Mathlib.Numerals.{add-one}
 use native.Mathlib.Omega.{arith}
 use lib.Dec.{eqb}
-use lib.ListN.{length, take, drop, set, length-append, length-drop}
-use lib.Seq.{length-take-le, take-at, take-suc-set}
+use lib.ListN.{length, take, drop, length-append, length-drop}
+use lib.Seq.{length-take-le, take-at}
 use borrow.Author.Tests.{eq-eqb}
 use borrow.Rule.Slice.PartMut.{same-len-mid}
-use Rattle.secrecy.specs.Lists.{tab, joinTo}
+use Rattle.secrecy.specs.Lists.{joinTo}
 use Rattle.matrices.specs.Linear.{at}
 use Rattle.secrecy.specs.Counts.{sumTo}
 use Rattle.secrecy.proofs.Sums.{sum-cong}
@@ -21,20 +21,7 @@ use Rattle.vetting.specs.Walking.{clusterSum}
 use Rattle.plans.proofs.PlanBounds.{Bounds}
 use Rattle.vetting.proofs.GatherLaws.{row-put, room, few-numbers}
 
--- ---- a row's symbols, and rows
-
-pub tab-none : (f : ℕ → ℕ) → [] ≡ tab 0 f
-unfolding tab
-tab-none f = refl
-
-tab-last : (n : ℕ) (f : ℕ → ℕ) → tab (suc n) f ≡ tab n f ++ (f n ∷ [])
-unfolding tab
-tab-last zero f = refl
-tab-last (suc n) f = ap (λ (l : List ℕ). f 0 ∷ l) (tab-last n (λ k. f (suc k)))
-
-pub tab-next : (f : ℕ → ℕ) (n : ℕ) (out : List ℕ) → n < length out → take n out ≡ tab n f → take (n + 1) (set out n (f n)) ≡ tab (n + 1) f
-tab-next f n out h e =
-    rw (add-one n) (take-suc-set out n (f n) h ∙ ap (λ (l : List ℕ). l ++ (f n ∷ [])) e ∙ sym (tab-last n f))
+-- ---- rows, one after the other
 
 pub join-none : (f : ℕ → List ℕ) → [] ≡ joinTo 0 f
 unfolding joinTo

@@ -1,47 +1,42 @@
 -- The invariant: the differences written are those of the positions passed.
-use mathlib.Core.Path.{refl, sym, _∙_}
+use mathlib.Core.Path.{refl, _∙_}
 use Prim.Native.Nat.{_-_}
 use native.Mathlib.Omega.{arith}
-use lib.ListN.{length, length-set}
+use lib.ListN.{length}
 use Rattle.arithmetic.specs.Field.{differenceOf}
 use Rattle.arithmetic.proofs.PrimeLaws.{below-at}
 use Rattle.arithmetic.proofs.SymbolLaws.{symbol-difference}
 use Rattle.matrices.specs.Linear.{at}
-use Rattle.matrices.proofs.Fronts.{Front, front-none, front-next, front-whole}
-use Rattle.secrecy.specs.Lists.{tab}
-use Rattle.secrecy.proofs.ListLaws.{at-tab, length-tab}
+use Rattle.secrecy.proofs.Filling.{Filling, filling-none, filling-next, filling-less, filling-whole}
 use Rattle.masking.proofs.write_unmasked.Statement.{statement}
 use Rattle.masking.proofs.write_unmasked.Tie as tie
 
 abbrev Inv-loop : tie.InvT-loop
-Inv-loop q upload key out₀ p₀ out p = Front out₀ (tab (length out₀) (λ p. differenceOf q (at upload p) (at key p))) out p
+Inv-loop q upload key out₀ p₀ out p = Filling (λ p. differenceOf q (at upload p) (at key p)) out₀ out p
 
 abbrev μ-loop : tie.MeasureT-loop
 μ-loop q upload key out₀ p₀ out p = length out - p
 
 loop-holds : tie.Need-loop-holds Inv-loop μ-loop
-loop-holds c = front-none _ _ 0 refl (length-tab _ _)
+loop-holds c = filling-none _ _ 0 refl
 
 loop-less : tie.Need-loop-less Inv-loop μ-loop
-loop-less c =
-    let s = c .before .before .before .before .loop in
-    omega (arith, length-set (s .out) (s .p) (c .sub-symbols .result), c .before .before .before .loop-test .taken)
+loop-less c = let s = c .before .before .before .before .loop in filling-less (s .out) (s .p) (c .sub-symbols .result) (c .before .before .before .loop-test .taken)
 
 loop-again : tie.Need-loop-again Inv-loop μ-loop
 loop-again c =
     let s = c .before .before .before .before .loop in
     let start = c .before .before .before .before .before .before .before .before in
     let a = start .args in
-    front-next _ _ (s .out) (s .p) (c .sub-symbols .result) (s .inv) (c .before .before .before .loop-test .taken)
+    filling-next _ _ (s .out) (s .p) (c .sub-symbols .result) (s .inv) (c .before .before .before .loop-test .taken)
     (c .sub-symbols .ensures
-    ∙ symbol-difference (a .q) _ _ (below-at (a .q) (a .upload .now) (start .pre .0) (start .pre .3) (s .p)) (below-at (a .q) (a .key .now) (start .pre .0) (start .pre .4) (s .p))
-    ∙ sym (at-tab (length (a .out .now)) (λ p. differenceOf (a .q) (at (a .upload .now) p) (at (a .key .now) p)) (s .p) (omega (arith, c .before .before .before .loop-test .taken, s .inv .whole))))
+    ∙ symbol-difference (a .q) _ _ (below-at (a .q) (a .upload .now) (start .pre .0) (start .pre .3) (s .p)) (below-at (a .q) (a .key .now) (start .pre .0) (start .pre .4) (s .p)))
 
 same-length : tie.Need-same-length Inv-loop μ-loop
 same-length c = c .before .loop .inv .whole
 
 returns : tie.Need-returns Inv-loop μ-loop
-returns c = front-whole _ _ _ (c .before .loop .p) (c .before .loop .inv) (c .loop-test .left)
+returns c = filling-whole _ _ _ (c .before .loop .p) (c .before .loop .inv) (c .loop-test .left)
 
 pub write-unmasked-spec : {M : Type 1} → statement M
 write-unmasked-spec =

@@ -1,47 +1,42 @@
 -- The invariant: the sums written are those of the positions passed.
-use mathlib.Core.Path.{refl, sym, _∙_}
+use mathlib.Core.Path.{refl, _∙_}
 use Prim.Native.Nat.{_-_}
 use native.Mathlib.Omega.{arith}
-use lib.ListN.{length, length-set}
+use lib.ListN.{length}
 use Rattle.arithmetic.specs.Field.{sumOf}
 use Rattle.arithmetic.proofs.PrimeLaws.{below-at}
 use Rattle.arithmetic.proofs.SymbolLaws.{symbol-sum}
 use Rattle.matrices.specs.Linear.{at}
-use Rattle.matrices.proofs.Fronts.{Front, front-none, front-next, front-whole}
-use Rattle.secrecy.specs.Lists.{tab}
-use Rattle.secrecy.proofs.ListLaws.{at-tab, length-tab}
+use Rattle.secrecy.proofs.Filling.{Filling, filling-none, filling-next, filling-less, filling-whole}
 use Rattle.masking.proofs.write_upload.Statement.{statement}
 use Rattle.masking.proofs.write_upload.Tie as tie
 
 abbrev Inv-loop : tie.InvT-loop
-Inv-loop q readings key out₀ p₀ out p = Front out₀ (tab (length out₀) (λ p. sumOf q (at readings p) (at key p))) out p
+Inv-loop q readings key out₀ p₀ out p = Filling (λ p. sumOf q (at readings p) (at key p)) out₀ out p
 
 abbrev μ-loop : tie.MeasureT-loop
 μ-loop q readings key out₀ p₀ out p = length out - p
 
 loop-holds : tie.Need-loop-holds Inv-loop μ-loop
-loop-holds c = front-none _ _ 0 refl (length-tab _ _)
+loop-holds c = filling-none _ _ 0 refl
 
 loop-less : tie.Need-loop-less Inv-loop μ-loop
-loop-less c =
-    let s = c .before .before .before .before .loop in
-    omega (arith, length-set (s .out) (s .p) (c .add-symbols .result), c .before .before .before .loop-test .taken)
+loop-less c = let s = c .before .before .before .before .loop in filling-less (s .out) (s .p) (c .add-symbols .result) (c .before .before .before .loop-test .taken)
 
 loop-again : tie.Need-loop-again Inv-loop μ-loop
 loop-again c =
     let s = c .before .before .before .before .loop in
     let start = c .before .before .before .before .before .before .before .before in
     let a = start .args in
-    front-next _ _ (s .out) (s .p) (c .add-symbols .result) (s .inv) (c .before .before .before .loop-test .taken)
+    filling-next _ _ (s .out) (s .p) (c .add-symbols .result) (s .inv) (c .before .before .before .loop-test .taken)
     (c .add-symbols .ensures
-    ∙ symbol-sum (a .q) _ _ (below-at (a .q) (a .readings .now) (start .pre .0) (start .pre .3) (s .p)) (below-at (a .q) (a .key .now) (start .pre .0) (start .pre .4) (s .p))
-    ∙ sym (at-tab (length (a .out .now)) (λ p. sumOf (a .q) (at (a .readings .now) p) (at (a .key .now) p)) (s .p) (omega (arith, c .before .before .before .loop-test .taken, s .inv .whole))))
+    ∙ symbol-sum (a .q) _ _ (below-at (a .q) (a .readings .now) (start .pre .0) (start .pre .3) (s .p)) (below-at (a .q) (a .key .now) (start .pre .0) (start .pre .4) (s .p)))
 
 same-length : tie.Need-same-length Inv-loop μ-loop
 same-length c = c .before .loop .inv .whole
 
 returns : tie.Need-returns Inv-loop μ-loop
-returns c = front-whole _ _ _ (c .before .loop .p) (c .before .loop .inv) (c .loop-test .left)
+returns c = filling-whole _ _ _ (c .before .loop .p) (c .before .loop .inv) (c .loop-test .left)
 
 pub write-upload-spec : {M : Type 1} → statement M
 write-upload-spec =

@@ -4,13 +4,12 @@ use mathlib.Core.List.{List}
 use Prim.Native.Nat.{ℕ, _+_, _-_, _*_, _%_, _≤_}
 use native.Mathlib.Nat.{le-add-right, add-sub-cancel-left}
 use native.Mathlib.Omega.{arith}
-use lib.ListN.{length, length-set}
+use lib.ListN.{length}
 use Rattle.matrices.specs.Linear.{at}
 use Rattle.secrecy.specs.Counts.{sumTo}
-use Rattle.secrecy.specs.Lists.{tab}
 use Rattle.secrecy.proofs.Sums.{sum-cong}
-use Rattle.secrecy.proofs.ListLaws.{at-tab, length-tab}
-use Rattle.matrices.proofs.Fronts.{Front, front-none, front-next, front-whole, row-fits, length-part, part-at}
+use Rattle.secrecy.proofs.Filling.{Filling, filling-none, filling-next, filling-less, filling-whole}
+use Rattle.matrices.proofs.Fronts.{row-fits, length-part, part-at}
 use Rattle.keys.proofs.derive.user_keys.Statement.{statement}
 use Rattle.keys.proofs.derive.user_keys.Tie as tie
 
@@ -19,13 +18,13 @@ abbrev products : ℕ → List ℕ → List ℕ → ℕ → ℕ
 products q row source p = sumTo (length row) (λ k. at row k * at source (p * length row + k)) % q
 
 abbrev Inv-loop : tie.InvT-loop
-Inv-loop q row source keys₀ rate p₀ keys p = Front keys₀ (tab (length keys₀) (products q row source)) keys p
+Inv-loop q row source keys₀ rate p₀ keys p = Filling (products q row source) keys₀ keys p
 
 abbrev μ-loop : tie.MeasureT-loop
 μ-loop q row source keys₀ rate p₀ keys p = length keys - p
 
 loop-holds : tie.Need-loop-holds Inv-loop μ-loop
-loop-holds c = front-none _ _ 0 refl (length-tab _ _)
+loop-holds c = filling-none _ _ 0 refl
 
 -- the position's symbols lie in the source key
 fits : (c : tie.In-loop Inv-loop μ-loop) → (let a = c .before .before .before .before .before .args in c .before .loop .p * length (a .row .now) + length (a .row .now) ≤ length (a .source .now))
@@ -60,27 +59,22 @@ key-symbol-requires c κs =
     (c .before .before .before .before .before .before .pre .0, sym (length-part (b + length (a .row .now) - b) b (a .source .now) (omega (arith, fits (c .before))) ∙ add-sub-cancel-left _ _))
 
 loop-less : tie.Need-loop-less Inv-loop μ-loop
-loop-less c =
-    let s = c .before .before .before .loop in
-    omega (arith, length-set (s .keys) (s .p) (c .key-symbol .result), c .before .before .loop-test .taken)
+loop-less c = let s = c .before .before .before .loop in filling-less (s .keys) (s .p) (c .key-symbol .result) (c .before .before .loop-test .taken)
 
 loop-again : tie.Need-loop-again Inv-loop μ-loop
 loop-again c =
     let s = c .before .before .before .loop in
     let a = c .before .before .before .before .before .before .before .args in
-    let n : ℕ = length (a .keys .now) in
     let b : ℕ = s .p * length (a .row .now) in
-    let f = products (a .q) (a .row .now) (a .source .now) in
-    front-next _ (tab n f) (s .keys) (s .p) (c .key-symbol .result) (s .inv) (c .before .before .loop-test .taken)
+    filling-next (products (a .q) (a .row .now) (a .source .now)) _ (s .keys) (s .p) (c .key-symbol .result) (s .inv) (c .before .before .loop-test .taken)
     (c .key-symbol .ensures
-    ∙ ap (λ (t : ℕ). t % a .q) (sum-cong (length (a .row .now)) _ _ (λ k l. ap (λ (x : ℕ). at (a .row .now) k * x) (part-at (b + length (a .row .now) - b) b (a .source .now) k (omega arith))))
-    ∙ sym (at-tab n f (s .p) (omega (arith, c .before .before .loop-test .taken, s .inv .whole))))
+    ∙ ap (λ (t : ℕ). t % a .q) (sum-cong (length (a .row .now)) _ _ (λ k l. ap (λ (x : ℕ). at (a .row .now) k * x) (part-at (b + length (a .row .now) - b) b (a .source .now) k (omega arith)))))
 
 same-length : tie.Need-same-length Inv-loop μ-loop
 same-length c = c .before .loop .inv .whole
 
 returns : tie.Need-returns Inv-loop μ-loop
-returns c = front-whole _ _ _ (c .before .loop .p) (c .before .loop .inv) (c .loop-test .left)
+returns c = filling-whole _ _ _ (c .before .loop .p) (c .before .loop .inv) (c .loop-test .left)
 
 pub user-keys-spec : {M : Type 1} → statement M
 user-keys-spec =

@@ -1,4 +1,3 @@
-use mathlib.Core.Path.{_≡_, sym}
 use Rattle.testing.specs.Numbers.{overOf}
 use Rattle.testing.proofs.numbers.over.Statement.{statement}
 use Rattle.testing.proofs.numbers.over.Tie as tie
