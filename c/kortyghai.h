@@ -1,5 +1,5 @@
 /*
- * Kortyghai for callers in C: plans, their records, the vet, key tables, keys, uploads, frames.
+ * Kortyghai for callers in C: plans, their records, the vet, key tables, keys, uploads, frames, sums.
  *
  * Every function answers one number of 64 bits, which packs the number of the refusal (0: nothing is refused) and its two
  * details. Take them out by the three macros below. A refused call writes nothing.
@@ -159,6 +159,21 @@ uint64_t kortyghai_unmask(uint16_t q, size_t length, const uint16_t *upload, siz
 uint64_t kortyghai_count_frame(size_t clusters, size_t size, uint16_t q, size_t length, size_t cluster, uint32_t number,
                                uint16_t *reported, uint16_t *sums, size_t sender, uint32_t said, const uint16_t *block,
                                size_t block_len);
+
+/*
+ * A relay's sums, once every user of its cluster has reported. The round's state is handed over as above; none of it changes.
+ *
+ *     length     L, from 1 to 64
+ *     cluster    the relay's own number, from 1 to U
+ *     number     the round's number
+ *     reported   one bit for each user of the cluster
+ *     sums       exactly 64 symbols, 0 past the first L
+ *     out        exactly L symbols: the sums are put there
+ *
+ * Refuses, the first that holds: of the state 1, 2, 9, 8, 3, then 12 (a user has not reported), 4.
+ */
+uint64_t kortyghai_give_sums(size_t clusters, size_t size, uint16_t q, size_t length, size_t cluster, uint32_t number,
+                             uint16_t reported, const uint16_t *sums, uint16_t *out, size_t out_len);
 
 #ifdef __cplusplus
 }

@@ -158,9 +158,11 @@ static void blocks(void) {
 static void frames(void) {
     /* cluster 1 of the small pool in round 9: uploads 4 and 1 sum to 0 */
     const uint16_t first[1] = {4}, second[1] = {1}, bad[1] = {5};
-    uint16_t reported = 0, sums[64] = {0};
+    uint16_t reported = 0, sums[64] = {0}, out[2];
+    mark(out, 2);
     CHECK(is(kortyghai_count_frame(2, 2, 5, 1, 1, 9, &reported, sums, 1, 9, first, 1), 0, 0, 0));
     CHECK(reported == 1 && sums[0] == 4);
+    CHECK(is(kortyghai_give_sums(2, 2, 5, 1, 1, 9, reported, sums, out, 1), 12, 0, 0));
     CHECK(is(kortyghai_count_frame(2, 2, 5, 1, 1, 9, &reported, sums, 1, 9, second, 1), 11, 0, 0));
     CHECK(is(kortyghai_count_frame(2, 2, 5, 1, 1, 9, &reported, sums, 2, 8, second, 1), 14, 0, 0));
     CHECK(is(kortyghai_count_frame(2, 2, 5, 1, 1, 9, &reported, sums, 2, 9, bad, 1), 3, 0, 0));
@@ -171,6 +173,12 @@ static void frames(void) {
     CHECK(reported == 1 && sums[0] == 4 && sums[1] == 0);
     CHECK(is(kortyghai_count_frame(2, 2, 5, 1, 1, 9, &reported, sums, 2, 9, second, 1), 0, 0, 0));
     CHECK(reported == 3 && sums[0] == 0);
+    CHECK(is(kortyghai_give_sums(2, 2, 5, 1, 1, 9, reported, sums, out, 2), 4, 0, 0));
+    CHECK(is(kortyghai_give_sums(2, 2, 5, 1, 1, 9, 7, sums, out, 1), 8, 0, 0));
+    CHECK(is(kortyghai_give_sums(9, 2, 5, 1, 1, 9, reported, sums, out, 1), 1, 0, 0));
+    CHECK(marked(out, 2));
+    CHECK(is(kortyghai_give_sums(2, 2, 5, 1, 1, 9, reported, sums, out, 1), 0, 0, 0));
+    CHECK(out[0] == 0 && marked(out + 1, 1));
 }
 
 int main(void) {

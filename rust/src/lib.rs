@@ -227,5 +227,33 @@ pub fn count_frame(round: &mut RelayRound, sender: usize, said: u32, block: &[u1
     })
 }
 
+/// A relay's sums, into a lent buffer of exactly L symbols, once every user of its cluster has reported.
+///
+/// Refuses, the first that holds, for the round: 1, 2, 9, 8, 3; then 12, 4 (`out`).
+pub fn give_sums_into(round: &RelayRound, out: &mut [u16]) -> Result<(), Refusal> {
+    Refusal::unpack(unsafe {
+        raw::kortyghai_give_sums(
+            round.clusters,
+            round.size,
+            round.q,
+            round.length,
+            round.cluster,
+            round.number,
+            round.reported,
+            &round.sums,
+            out.as_mut_ptr(),
+            out.len(),
+        )
+    })
+}
+
+/// A relay's sums, once every user of its cluster has reported. Refuses, the first that holds: 1, 2, 9, 8, 3, 12.
+pub fn give_sums(round: &RelayRound) -> Result<Vec<u16>, Refusal> {
+    // more than 64 positions are refused by 9, before the length of the buffer counts
+    let mut out = vec![0; round.length.min(MAX_LENGTH)];
+    give_sums_into(round, &mut out)?;
+    Ok(out)
+}
+
 #[cfg(test)]
 mod tests;

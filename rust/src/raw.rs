@@ -59,4 +59,16 @@ extern "C" {
         block: *const u16,
         symbols: usize,
     ) -> u64;
+    pub fn kortyghai_give_sums(
+        clusters: usize,
+        size: usize,
+        q: u16,
+        length: usize,
+        cluster: usize,
+        number: u32,
+        reported: u16,
+        sums: *const [u16; 64],
+        out: *mut u16,
+        lent: usize,
+    ) -> u64;
 }

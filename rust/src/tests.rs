@@ -156,8 +156,25 @@ fn frames_into_a_round() {
     assert_eq!(count_frame(&mut round, 2, 8, &[5]), refused(4, 0, 0));
     assert_eq!(count_frame(&mut round, 3, 8, &[5]), refused(8, 0, 0));
     assert_eq!(round, before);
+    assert_eq!(give_sums(&round), refused(12, 0, 0));
     assert_eq!(count_frame(&mut round, 1, 9, &[3, 3]), Ok(()));
     assert_eq!((round.reported, &round.sums[..3]), (3, &[2, 4, 0][..]));
+}
+
+#[test]
+fn sums_of_a_round() {
+    let mut round = RelayRound { clusters: 2, size: 2, q: 5, length: 2, cluster: 1, number: 9, reported: 3, sums: [0; 64] };
+    round.sums[..2].copy_from_slice(&[2, 4]);
+    assert_eq!(give_sums(&round), Ok(vec![2, 4]));
+    let mut out = [9; 3];
+    assert_eq!(give_sums_into(&round, &mut out), refused(4, 0, 0));
+    assert_eq!(give_sums_into(&RelayRound { reported: 1, ..round.clone() }, &mut out), refused(12, 0, 0));
+    assert_eq!(give_sums(&RelayRound { reported: 7, ..round.clone() }), refused(8, 0, 0));
+    assert_eq!(give_sums(&RelayRound { length: 1, ..round.clone() }), refused(3, 0, 0));
+    assert_eq!(give_sums(&RelayRound { length: 65, ..round.clone() }), refused(9, 0, 0));
+    assert_eq!(give_sums(&RelayRound { q: 9, ..round.clone() }), refused(2, 0, 0));
+    assert_eq!(give_sums(&RelayRound { size: 9, ..round.clone() }), refused(1, 0, 0));
+    assert_eq!(out, [9; 3]);
 }
 
 #[test]

@@ -9,7 +9,7 @@ ghost use Rattle.keys.specs.Keys.{keyCode, keysAfter};
 ghost use Rattle.masking.specs.Blocks.{blockCode, uploadAfter, unmaskAfter};
 ghost use Rattle.rounds.specs.Ledger.{frame};
 ghost use Rattle.exports.specs.Packed.{packed};
-ghost use Rattle.exports.specs.States.{frameCode, frameNext};
+ghost use Rattle.exports.specs.States.{frameCode, frameNext, sumsCode, sumsGiven};
 ghost use Rattle.reports.specs.Program.{programCode};
 ghost use Rattle.exports.specs.Reading.{countsOf, entryCode, entryTable, entryCounts};
 use arithmetic::Symbol;
@@ -176,6 +176,38 @@ pub extern "C" fn kortyghai_count_frame(
     let left = after.sums;
     *reported = after.reported;
     *sums = left;
+    pack(verdict_code(answer))
+}
+
+// A relay's sums, once every user of its cluster has reported: put in the lent block, where nothing is refused.
+#[no_mangle]
+pub extern "C" fn kortyghai_give_sums(
+    clusters: usize,
+    size: usize,
+    q: Symbol,
+    length: usize,
+    cluster: usize,
+    number: u32,
+    reported: u16,
+    sums: &[Symbol; 64],
+    out: &mut [Symbol],
+) -> u64
+    ensures code { λ r. ⌜ r ≡ packed (sumsCode clusters size q length cluster number reported (now (sums .entry)) (now (out .entry))) ⌝ }
+    ensures out { λ _. ⌜ now (out .exit) ≡ sumsGiven clusters size q length cluster number reported (now (sums .entry)) (now (out .entry)) ⌝ }
+{
+    let held = *sums;
+    let round = Round {
+        clusters,
+        size,
+        q,
+        length,
+        number,
+        reported,
+        sums: held,
+    };
+    let relay = RelayRound { cluster, round };
+    let step = relay.give(out);
+    let answer = step.answer;
     pack(verdict_code(answer))
 }
 

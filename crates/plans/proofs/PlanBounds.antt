@@ -1,10 +1,14 @@
 -- What the counts of a plan satisfy, where they are within their bounds.
-use Prim.Native.Nat.{ℕ, _*_, _≤_}
-use mathlib.Core.Path.{_≡_}
+use Prim.Native.Nat.{ℕ, _+_, _-_, _*_, _%_, _≤_, _<_}
+use mathlib.Core.Path.{_≡_, refl, ap, _∙_}
 use mathlib.Core.Bool.{true, _&&_}
 use native.Mathlib.Nat.{mul-le-mul}
-use lib.Dec.{leb, leb→le}
-use Rattle.arithmetic.proofs.Searches.{T→true, true→T, T-and}
+use native.Mathlib.Decide.{decLt}
+use native.Mathlib.Omega.{arith}
+use lib.Dec.{leb, eqb, leb→le, eqb→eq}
+use Rattle.arithmetic.specs.Search.{anyTo, allTo}
+use Rattle.arithmetic.specs.Primes.{Prime}
+use Rattle.arithmetic.proofs.Searches.{T→true, true→T, T-and, any-found, all-at}
 use Rattle.plans.specs.declared.Plan.{Plan}
 use Rattle.plans.specs.Plans.{usersOf, countsFit, lengthFits, inBounds}
 
@@ -59,3 +63,18 @@ pub length-known : (L : ℕ) → lengthFits L ≡ true → (1 ≤ L) × (L ≤ 6
 length-known L e =
     let (f, s) = T-and (leb 1 L) (leb L 64) (true→T (lengthFits L) e) in
     (leb→le 1 L f, leb→le L 64 s)
+
+-- 65,521 is the largest prime of 16 bits: by a test of the fourteen numbers after it, each of which has a divisor below 20
+divisible : allTo 14 (λ k. anyTo 20 (λ d. leb 2 d && eqb ((65522 + k) % d) 0)) ≡ true
+unfolding allTo anyTo
+divisible = refl
+
+pub largest-prime : (q : ℕ) → q < 65536 → Prime q → q ≤ 65521
+largest-prime q h p = go (decLt 65521 q)
+  where
+    go : Dec (65521 < q) → q ≤ 65521
+    go (no n) = omega (arith, n)
+    go (yes l) =
+        let (d, few, t) = any-found 20 (λ d. leb 2 d && eqb ((65522 + (q - 65522)) % d) 0) (all-at 14 (λ k. anyTo 20 (λ d. leb 2 d && eqb ((65522 + k) % d) 0)) (true→T _ divisible) (q - 65522) (omega arith)) in
+        let (two, none) = T-and (leb 2 d) (eqb ((65522 + (q - 65522)) % d) 0) t in
+        absurd (p .none d (leb→le 2 d two) (omega arith) (ap (λ (n : ℕ). n % d) (omega arith) ∙ eqb→eq ((65522 + (q - 65522)) % d) 0 none))

@@ -1,5 +1,6 @@
 // The bounds of a plan and of a block, and the plan's constructor.
 ghost use mathlib.Core.Path.{_≡_};
+ghost use Prim.Native.Nat.{_≤_};
 ghost use Rattle.plans.specs.Plans.{plan, planCode, planMade, plannedCode, plannedPlan, countsFit, lengthFits, inBounds};
 use crate::Plan;
 use crate::Planned;
@@ -52,6 +53,7 @@ impl Plan {
     // The longest block.
     pub const MAX_LENGTH: usize = 64;
 
+    // The largest prime that a symbol's type holds: a larger q is no prime, so that no test of its own is needed.
     pub const MAX_Q: Symbol = 65521;
 
     // Whether the counts are within their bounds.
@@ -71,6 +73,7 @@ impl Plan {
     pub fn new(clusters: usize, size: usize, limit: usize, rate: usize, q: Symbol) -> Planned
         ensures code { λ r. ⌜ plannedCode r ≡ planCode (plan clusters size limit rate q) ⌝ }
         ensures plan { λ r. ⌜ plannedPlan r ≡ planMade (plan clusters size limit rate q) ⌝ }
+        ensures largest { λ r. do ⌜ plannedPlan r .q ≤ (← ⟦Plan::MAX_Q⟧ .entry) ⌝ }
     {
         let made = Plan {
             clusters,

@@ -1,6 +1,7 @@
 //! Throws seeded frames and rounds at the archive's step of a relay's round, and compares every answer, who has reported and all
-//! 64 sums with a model of its own. `hostile_frames [COUNT] [SEED]`; a million and 7 where nothing is said. The exit status is 1
-//! where one differs.
+//! 64 sums with a model of its own. After each frame the sums are asked for, into a buffer as long as the frame's block, and that
+//! answer is compared too. `hostile_frames [COUNT] [SEED]`; a million and 7 where nothing is said. The exit status is 1 where one
+//! differs.
 
 mod model;
 #[path = "../hostile/seeded.rs"]
@@ -52,10 +53,32 @@ fn called(round: &RelayRound, frame: &Frame) -> (u64, RelayRound, bool) {
     (packed, RelayRound { reported: lent.reported, sums: lent.sums, ..round.clone() }, clean)
 }
 
+/// The sums asked for, into a buffer of `room` symbols: the packed answer, and the buffer with the marks before and behind it.
+fn asked(round: &RelayRound, room: usize) -> (u64, Vec<u16>) {
+    let mut lent = vec![MARK[0]; room + 2];
+    let packed = unsafe {
+        raw::kortyghai_give_sums(
+            round.clusters,
+            round.size,
+            round.q,
+            round.length,
+            round.cluster,
+            round.number,
+            round.reported,
+            &round.sums,
+            lent[1..].as_mut_ptr(),
+            room,
+        )
+    };
+    (packed, lent)
+}
+
 /// How often the model answered each number, and how often the archive's function answered or left another thing.
 struct Kind {
     name: &'static str,
     numbers: [usize; 15],
+    /// The same of the sums asked for.
+    given: [usize; 15],
     differ: usize,
     /// Rounds fed until all had reported.
     whole: usize,
@@ -63,7 +86,7 @@ struct Kind {
 
 impl Kind {
     fn named(name: &'static str) -> Kind {
-        Kind { name, numbers: [0; 15], differ: 0, whole: 0 }
+        Kind { name, numbers: [0; 15], given: [0; 15], differ: 0, whole: 0 }
     }
 
     fn tried(&self) -> usize {
@@ -71,7 +94,7 @@ impl Kind {
     }
 
     /// A frame into a round, by the archive and by the model; `expected` is the number where it is known beforehand. A refused
-    /// call must leave the round as it was. Gives back the round that the archive left.
+    /// call must leave the round as it was. Then the sums are asked for. Gives back the round that the archive left.
     fn attempt(&mut self, round: &RelayRound, frame: &Frame, expected: Option<u16>) -> RelayRound {
         let mut after = round.clone();
         let wanted = match model::count(round, frame) {
@@ -92,7 +115,25 @@ impl Kind {
             let rounds = if left == after && safe == after && clean { "the same round" } else { "another round" };
             self.complain(&format!("the archive says {packed:#x}, the model {wanted}, {rounds} after {}", shown(round, frame)));
         }
+        self.ask(&left, frame.block.len());
         left
+    }
+
+    /// The sums of a round, by the archive and by the model. A refused call must leave the buffer as it was.
+    fn ask(&mut self, round: &RelayRound, room: usize) {
+        let mut lent = vec![MARK[0]; room + 2];
+        let wanted = match model::give(round, room) {
+            Err(number) => number,
+            Ok(sums) => {
+                lent[1..=room].copy_from_slice(&sums);
+                0
+            }
+        };
+        self.given[wanted as usize] += 1;
+        let safe = kortyghai::give_sums(round).map_or_else(|refusal| Err(refusal.number), Ok);
+        if asked(round, room) != (wanted as u64, lent) || safe != model::give(round, round.length) {
+            self.complain(&format!("the model says {wanted} to {room} sums asked of {round:?}, or others"));
+        }
     }
 
     fn complain(&mut self, what: &str) {
@@ -301,10 +342,13 @@ fn tell(kinds: &[Kind]) -> usize {
     for kind in kinds {
         kind.print();
         all.numbers.iter_mut().zip(kind.numbers).for_each(|(n, m)| *n += m);
+        all.given.iter_mut().zip(kind.given).for_each(|(n, m)| *n += m);
         all.differ += kind.differ;
         all.whole += kind.whole;
     }
     all.print();
+    let given: String = all.given.iter().enumerate().filter(|(_, n)| **n > 0).map(|(i, n)| format!(", {n} got {i}")).collect();
+    println!("after each frame the sums were asked for{given}");
     println!("{} rounds were fed until all had reported, and their sums compared with those of their blocks", all.whole);
     all.differ
 }
@@ -335,6 +379,8 @@ mod tests {
         assert_eq!(count(2, 9, &[3]).map(|(reported, sums)| (reported, sums[0])), Ok((3, 2)));
         assert_eq!([count(3, 9, &[3]), count(2, 9, &[]), count(2, 9, &[5])], [Err(8), Err(4), Err(3)]);
         assert_eq!([count(1, 8, &[3]), count(1, 9, &[3])], [Err(14), Err(11)]);
+        let full = RelayRound { reported: 3, ..round.clone() };
+        assert_eq!([model::give(&round, 2), model::give(&full, 2), model::give(&full, 1)], [Err(12), Err(4), Ok(vec![4])]);
     }
 
     #[test]

@@ -49,16 +49,26 @@ fn of_frame(round: &RelayRound, names: &[usize], frame: &Frame) -> [(u16, bool);
     ]
 }
 
+/// The number of the first condition that holds.
+fn refused(conditions: impl Iterator<Item = (u16, bool)>) -> Result<(), u16> {
+    conditions.into_iter().find(|(_, holds)| *holds).map_or(Ok(()), |(number, _)| Err(number))
+}
+
 /// Who has reported and the sums after the frame, or the number of the refusal.
 pub fn count(round: &RelayRound, frame: &Frame) -> Result<(u16, [u16; 64]), u16> {
     let mut names = names(round.reported);
-    let conditions = of_state(round, &names).into_iter().chain(of_frame(round, &names, frame));
-    if let Some((number, _)) = conditions.into_iter().find(|(_, holds)| *holds) {
-        return Err(number);
-    }
+    refused(of_state(round, &names).into_iter().chain(of_frame(round, &names, frame)))?;
     names.push(frame.sender);
     let reported = names.iter().map(|name| 2_u16.pow(*name as u32 - 1)).sum();
     Ok((reported, total(round.q, &[&round.sums, &frame.block])))
+}
+
+/// The sums that are given into a buffer with room for so many, or the number of the refusal. "Giving sums: 12, 4."
+pub fn give(round: &RelayRound, room: usize) -> Result<Vec<u16>, u16> {
+    let names = names(round.reported);
+    let of_asking = [(12, !(1..=round.size).all(|name| names.contains(&name))), (4, room != round.length)];
+    refused(of_state(round, &names).into_iter().chain(of_asking))?;
+    Ok(round.sums[..round.length].to_vec())
 }
 
 /// Blocks added up, position by position: first whole, then modulo q.
