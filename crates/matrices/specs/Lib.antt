@@ -1,5 +1,5 @@
--- Rows modulo q. Linear has products, combinations, spans and independence; Rank the rank, by trying all coefficients; Tables what elimination does to a
--- table; Entries the checked rank's refusals. For secrecy only Linear and Rank matter.
+-- Rows modulo q. Linear has rows and their combinations; Rank the rank, by trying all coefficients; Tables what elimination does to a table; Entries the
+-- checked rank's refusals. For secrecy only Linear and Rank matter.
 pub mod Linear
 pub mod Rank
 pub mod Tables
