@@ -1,3 +1,2 @@
 pub mod FullRank
 pub mod SmallPool
-pub mod Equations

@@ -14,8 +14,8 @@ use Rattle.arithmetic.specs.Primes.{Prime}
 use Rattle.arithmetic.proofs.PrimeLaws.{prime-pos}
 use Rattle.arithmetic.proofs.Congruence.{Cong, to-mod, of-eq, c-refl, c-sym, c-trans, c-add, c-mul-left, cong-zero, zero-cong, cong-one, zero-not-one}
 use Rattle.arithmetic.proofs.InverseLaws.{invert}
-use Rattle.matrices.specs.Linear.{at, Vector, add, scale, combN}
-use Rattle.matrices.proofs.Notions.{All, dotN, dot, InSpan, Separated}
+use Rattle.matrices.specs.Linear.{at, All, Vector, add, scale, combN}
+use Rattle.matrices.proofs.Notions.{dotN, dot, InSpan, Separated}
 use Rattle.matrices.proofs.Vectors.{all-map, all-both, dot-nil, dot-left, dot-right, dot-fit, el-left, el-comb, el-zeros, fit, vector-fit}
 use Rattle.matrices.proofs.Spans.{span-made, span-dot, span-vector, spans-vectors}
 

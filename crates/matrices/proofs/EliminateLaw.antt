@@ -9,8 +9,8 @@ use lib.ListN.{drop}
 use Rattle.arithmetic.specs.Primes.{Prime}
 use Rattle.arithmetic.proofs.PrimeLaws.{prime-pos}
 use Rattle.arithmetic.proofs.Congruence.{Cong, of-eq, c-refl, c-sym, c-trans, c-add, c-mul-left, cong-one, zero-not-one}
-use Rattle.matrices.specs.Linear.{Vector, zeros, combN, comb}
-use Rattle.matrices.proofs.Notions.{All, dotN, InSpan}
+use Rattle.matrices.specs.Linear.{All, Vector, zeros, combN, comb}
+use Rattle.matrices.proofs.Notions.{dotN, InSpan}
 use Rattle.matrices.specs.Tables.{rowOf, rowsOf, eliminated}
 use Rattle.matrices.proofs.Vectors.{dot-reduce, dot-zeros, dot-combined, el-zeros, vector-zeros, vector-comb}
 use Rattle.matrices.proofs.Spans.{comb-is, span-dot}

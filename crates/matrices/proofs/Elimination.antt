@@ -17,8 +17,8 @@ use Rattle.arithmetic.specs.Field.{inverseOf}
 use Rattle.arithmetic.proofs.Searches.{T→true, not-T→false}
 use Rattle.arithmetic.proofs.Congruence.{Cong, to-mod, of-eq, of-rem, c-refl, c-sym, c-trans, c-add, c-mul-left, c-mul-right, cong-one, zero-not-one}
 use Rattle.arithmetic.proofs.InverseLaws.{inverse-one}
-use Rattle.matrices.specs.Linear.{at, Vector, add, scale, zeros}
-use Rattle.matrices.proofs.Notions.{All, dotN, InSpan, Independent}
+use Rattle.matrices.specs.Linear.{at, All, Vector, add, scale, zeros}
+use Rattle.matrices.proofs.Notions.{dotN, InSpan, Independent}
 use Rattle.matrices.specs.Rank.{inSpan, rankOver, rankOf}
 use Rattle.matrices.specs.Tables.{rowOf, rowsOf, pivotOf, cleared, pivotRow, hasPivot, clearedBy, eliminatedFrom, eliminated, pivotsFrom}
 use Rattle.matrices.proofs.Vectors.{all-append, all-left, all-right, all-snoc, dot-right}

@@ -12,8 +12,8 @@ use Rattle.arithmetic.specs.Primes.{Prime}
 use Rattle.arithmetic.proofs.Searches.{T→true, T-decide}
 use Rattle.arithmetic.proofs.PrimeLaws.{prime-pos}
 use Rattle.arithmetic.proofs.Congruence.{Cong, of-eq, c-sym, c-trans, cong-zero, zero-cong, cong-one, zero-not-one, minus-number}
-use Rattle.matrices.specs.Linear.{at, Vector, zeros, combN}
-use Rattle.matrices.proofs.Notions.{All, dotN, dot, InSpan, Independent, Solution, LinearlyIndependent, Selection}
+use Rattle.matrices.specs.Linear.{at, All, Vector, zeros, combN}
+use Rattle.matrices.proofs.Notions.{dotN, dot, InSpan, Independent, Solution, LinearlyIndependent, Selection}
 use Rattle.matrices.proofs.Notions.Selection.{none, take, skip}
 use Rattle.matrices.specs.Rank.{inSpan, rankOver, rankOf}
 use Rattle.matrices.proofs.Vectors.{all-snoc, all-left, all-right, all-append, all-both, dot-zeros, dot-zeroed, dot-reduce, dot-reduced, dot-combined}

@@ -3,12 +3,7 @@ use mathlib.Core.Path.{_≡_}
 use mathlib.Core.List.{List, [], _∷_, _++_, map}
 use Prim.Native.Nat.{ℕ, _+_, _*_, _%_}
 use lib.ListN.{length}
-use Rattle.matrices.specs.Linear.{Vector, zeros, comb}
-
--- each member of a list has the property
-abbrev pub All : {A : Type 0} → (A → Type 0) → List A → Type 0
-All P [] = Unit {0}
-All P (x ∷ l) = P x × All P l
+use Rattle.matrices.specs.Linear.{All, Vector, zeros, comb}
 
 -- the sum of the products of two rows, and the same modulo q
 abbrev pub dotN : List ℕ → List ℕ → ℕ

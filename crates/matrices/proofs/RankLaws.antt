@@ -9,8 +9,8 @@ use lib.Dec.{T}
 use lib.ListN.{length}
 use Rattle.arithmetic.specs.Primes.{Prime}
 use Rattle.arithmetic.proofs.PrimeLaws.{prime-pos}
-use Rattle.matrices.specs.Linear.{Vector}
-use Rattle.matrices.proofs.Notions.{All, InSpan, Independent}
+use Rattle.matrices.specs.Linear.{All, Vector}
+use Rattle.matrices.proofs.Notions.{InSpan, Independent}
 use Rattle.matrices.specs.Rank.{inSpan, rankOver}
 use Rattle.matrices.proofs.Vectors.{all-snoc, all-map}
 use Rattle.matrices.proofs.Spans.{in-span-iff, span-members, spans-vectors, spans-snoc}

@@ -9,8 +9,8 @@ use lib.ListN.{length}
 use Rattle.arithmetic.specs.Primes.{Prime}
 use Rattle.arithmetic.proofs.PrimeLaws.{prime-pos}
 use Rattle.arithmetic.proofs.Congruence.{Cong, to-mod, of-eq, c-refl, c-trans, c-add, c-mul-left, cong-zero, zero-cong, cong-one}
-use Rattle.matrices.specs.Linear.{Vector, add, scale, zeros, reduce}
-use Rattle.matrices.proofs.Notions.{All, dotN, dot, InSpan, Separated, Independent, Solution}
+use Rattle.matrices.specs.Linear.{All, Vector, add, scale, zeros, reduce}
+use Rattle.matrices.proofs.Notions.{dotN, dot, InSpan, Separated, Independent, Solution}
 use Rattle.matrices.proofs.Vectors.{all-snoc, all-left, all-right, all-made, all-map, all-both, dot-right, dot-reduced, dot-zeroed}
 use Rattle.matrices.proofs.Vectors.{length-add, length-scale, length-zeros, vector-cons, vector-head, vector-tail, vector-reduce, vector-one}
 use Rattle.matrices.proofs.Duality.{duality, not-both}

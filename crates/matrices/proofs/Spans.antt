@@ -11,8 +11,8 @@ use lib.ListN.{length, length-append}
 use lib.Seq.{ext-getD}
 use Rattle.arithmetic.proofs.Searches.{T-and, and-T, any-found, any-at}
 use Rattle.arithmetic.proofs.Congruence.{Cong, to-mod, of-eq, of-rem, c-sym, c-trans}
-use Rattle.matrices.specs.Linear.{at, Vector, zeros, reduce, combN, comb}
-use Rattle.matrices.proofs.Notions.{All, dotN, InSpan}
+use Rattle.matrices.specs.Linear.{at, All, Vector, zeros, reduce, combN, comb}
+use Rattle.matrices.proofs.Notions.{dotN, InSpan}
 use Rattle.matrices.specs.Rank.{anyList, sameList, inSpan}
 use Rattle.matrices.proofs.Vectors.{all-right, all-append, all-snoc, all-map, dot-reduce, dot-comb, length-reduce, length-zeros, length-comb}
 use Rattle.matrices.proofs.Vectors.{el-reduce, el-comb, el-comb-append, el-comb-zeros, el-comb-reduce}

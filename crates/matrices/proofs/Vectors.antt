@@ -6,8 +6,8 @@ use native.Mathlib.Nat.{le-of-suc-le-suc, not-suc-le-zero, zero-lt-suc, zero-mod
 use native.Mathlib.Omega.{arith}
 use lib.ListN.{length, getD, length-map, length-replicate}
 use Rattle.arithmetic.proofs.Congruence.{Cong, of-eq, of-rem, c-refl, c-trans, c-add, c-mul-left, c-mul-right}
-use Rattle.matrices.specs.Linear.{at, Vector, add, scale, zeros, reduce, combN, comb}
-use Rattle.matrices.proofs.Notions.{All, dotN}
+use Rattle.matrices.specs.Linear.{at, All, Vector, add, scale, zeros, reduce, combN, comb}
+use Rattle.matrices.proofs.Notions.{dotN}
 
 -- ---- each member
 

@@ -8,6 +8,11 @@ use lib.ListN.{length, getD, replicate}
 abbrev pub at : List ℕ → ℕ → ℕ
 at r i = getD r i 0
 
+-- each member of a list has the property
+abbrev pub All : {A : Type 0} → (A → Type 0) → List A → Type 0
+All P [] = Unit {0}
+All P (x ∷ l) = P x × All P l
+
 -- n numbers below q
 pub record Vector (q n : ℕ) (r : List ℕ) : Type 0 where
   pub size : length r ≡ n

@@ -15,12 +15,10 @@ use lib.Seq.{getD-take, getD-drop, length-take-le}
 use borrow.Author.Tests.{not-false, eq-eqb, ne-eqb, lt-ltb}
 use Rattle.refusals.specs.Codes.{code, accepted, firstOf}
 use Rattle.refusals.proofs.CodeLaws.{none-holds}
-use Rattle.arithmetic.specs.Search.{allTo}
 use Rattle.arithmetic.specs.Primes.{allBelow}
 use Rattle.arithmetic.proofs.Searches.{T→true, true→T, all-at}
 use Rattle.arithmetic.proofs.PrimeLaws.{prime-pos, at-below}
-use Rattle.matrices.specs.Linear.{at, zeros}
-use Rattle.matrices.proofs.Notions.{All}
+use Rattle.matrices.specs.Linear.{at, All, zeros}
 use Rattle.secrecy.specs.Lists.{tab}
 use Rattle.secrecy.specs.Counts.{sumTo}
 use Rattle.secrecy.proofs.Sums.{sum-cong, sum-zero}
@@ -28,7 +26,7 @@ use Rattle.secrecy.proofs.ListLaws.{at-tab, tab-at, length-tab}
 use Rattle.refusals.proofs.Orders.{first-accepts, rest-decides}
 use Rattle.rounds.specs.declared.Round.{Round}
 use Rattle.rounds.specs.Ledger.{Frame, named, countedAt}
-use Rattle.rounds.specs.Rounds.{sumsFit, openChecks, opened, stateChecks, hasReported, frameChecks, giveChecks, stepCode, runOf, noted, ledgerOf}
+use Rattle.rounds.specs.Rounds.{sumsFit, openChecks, opened, stateChecks, hasReported, frameChecks, giveChecks, stepCode, runOf, noted, ledgerOf, everyone, Carries}
 use Rattle.rounds.proofs.CheckLaws.{Opening, opening-known, Passed, frame-known}
 use Rattle.rounds.proofs.ReportedLaws.{no-bits}
 use Rattle.rounds.proofs.StepLaws.{all-cong, or-none}
@@ -80,14 +78,6 @@ zeros-fit : (q L m : ℕ) → 0 < q → sumsFit q L (replicate m 0) ≡ true
 zeros-fit q L m pos =
     ap₂ _&&_ (zeros-below q m pos (take L (replicate m 0)) (take-zeros L m))
     (zeros-below 1 m (omega arith) (drop L (replicate m 0)) (λ i. getD-drop L (replicate m 0) i 0 ∙ zeros-at m (L + i)))
-
--- everyone is named on the ledger of these frames
-abbrev pub everyone : ℕ → Bool → Round → List Frame → Bool
-everyone senders known R frames = allTo senders (λ i. named (ledgerOf senders known R [] frames) (suc i))
-
--- a frame that would be counted, were nobody named yet, carries its sender's block; any other may carry anything
-abbrev pub Carries : ℕ → Bool → Round → (ℕ → List ℕ) → Frame → Type 0
-Carries senders known R B f = stepCode senders known R f ≡ accepted → f .block ≡ B (f .sender)
 
 module _ (senders : ℕ) (known : Bool) (clusters size q L number : ℕ) (pass : accepted ≡ firstOf (openChecks clusters size q L known)) where
   abbrev R : Round

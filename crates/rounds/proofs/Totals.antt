@@ -11,21 +11,21 @@ use lib.Seq.{getD-take}
 use borrow.Author.Tests.{eq-eqb, le-leb}
 use Rattle.refusals.specs.Codes.{code, accepted, firstOf}
 use Rattle.arithmetic.proofs.Congruence.{Cong, to-mod, of-eq, of-rem, c-refl, c-trans, c-add}
-use Rattle.matrices.specs.Linear.{at}
-use Rattle.matrices.proofs.Notions.{All, dotN}
+use Rattle.matrices.specs.Linear.{at, All}
+use Rattle.matrices.proofs.Notions.{dotN}
 use Rattle.secrecy.specs.Lists.{tab}
 use Rattle.secrecy.specs.Counts.{sumTo}
-use Rattle.secrecy.specs.Model.{Pool, users, reading, key, upload, relaySum, total}
+use Rattle.secrecy.specs.Model.{Pool, users, reading, key, upload, relaySum, total, ZeroSum}
 use Rattle.secrecy.proofs.Sums.{sum-cong, sum-add, sum-grid, sum-c}
 use Rattle.secrecy.proofs.ListLaws.{at-tab, tab-cong}
 use Rattle.secrecy.proofs.Forms.{sourceAt}
-use Rattle.secrecy.proofs.RankCondition.{row, ZeroSum}
+use Rattle.secrecy.proofs.RankCondition.{row}
 use Rattle.secrecy.proofs.PoolForms.{dot-key}
 use Rattle.secrecy.proofs.Clusters.{rows-none}
 use Rattle.rounds.specs.declared.Round.{Round}
 use Rattle.rounds.specs.Ledger.{Frame}
-use Rattle.rounds.specs.Rounds.{oneOf, openChecks, opened, giveChecks, runOf}
-use Rattle.rounds.proofs.RoundLaws.{everyone, Carries, full-sums, full-block, give-code}
+use Rattle.rounds.specs.Rounds.{oneOf, openChecks, opened, giveChecks, runOf, everyone, Carries}
+use Rattle.rounds.proofs.RoundLaws.{full-sums, full-block, give-code}
 
 module _ (P : Pool) (L : ℕ) (W N : List ℕ) where
   -- ---- the equations

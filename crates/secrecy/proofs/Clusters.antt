@@ -16,11 +16,11 @@ use Rattle.matrices.specs.Linear.{at}
 use Rattle.matrices.proofs.Notions.{dotN}
 use Rattle.matrices.proofs.Vectors.{dot-reduce}
 use Rattle.secrecy.specs.Counts.{sumTo}
-use Rattle.secrecy.specs.Model.{Pool, users, inCoalition}
+use Rattle.secrecy.specs.Model.{Pool, users, inCoalition, ZeroSum}
 use Rattle.secrecy.proofs.Sums.{sum-cong, sum-zero}
 use Rattle.secrecy.proofs.ListLaws.{at-tab, length-tab}
 use Rattle.secrecy.proofs.Units.{unit, addTo, dot-addTo, dot-units-one, dot-units-none, el-addTo, dot-null}
-use Rattle.secrecy.proofs.RankCondition.{row, sumRow, ZeroSum, opened, tested}
+use Rattle.secrecy.proofs.RankCondition.{row, sumRow, opened, tested}
 use Rattle.secrecy.proofs.PoolForms.{sumForm}
 
 module _ (P : Pool) where

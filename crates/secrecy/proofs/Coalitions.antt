@@ -4,8 +4,8 @@ use mathlib.Core.Path.{_≡_, sym, ap, _∙_, subst}
 use mathlib.Core.List.{List}
 use native.Mathlib.Nat.{zero-mod}
 use lib.Dec.{T}
-use Rattle.matrices.specs.Linear.{zeros}
-use Rattle.matrices.proofs.Notions.{All, dot}
+use Rattle.matrices.specs.Linear.{All, zeros}
+use Rattle.matrices.proofs.Notions.{dot}
 use Rattle.matrices.proofs.Vectors.{all-append, all-right, dot-zeros}
 use Rattle.secrecy.specs.Model.{Pool, users, inCoalition}
 use Rattle.secrecy.proofs.ListLaws.{all-picked, picked-all}

@@ -7,8 +7,8 @@ use native.Mathlib.Nat.{mod-lt, lt-suc-self}
 use native.Mathlib.Omega.{arith}
 use lib.ListN.{length}
 use lib.Dec.{T}
-use Rattle.matrices.specs.Linear.{at, Vector}
-use Rattle.matrices.proofs.Notions.{All, dotN, dot}
+use Rattle.matrices.specs.Linear.{at, All, Vector}
+use Rattle.matrices.proofs.Notions.{dotN, dot}
 use Rattle.matrices.proofs.Vectors.{vector-nil}
 use Rattle.secrecy.specs.Lists.{tab, joinTo, picked}
 use Rattle.secrecy.specs.Leaks.{Symbols}

@@ -9,8 +9,8 @@ use native.Mathlib.Omega.{arith}
 use lib.ListN.{length}
 use lib.Arith.{digits-lt, digits-div, digits-mod, lt-one}
 use Rattle.arithmetic.proofs.Congruence.{Cong, to-mod, of-eq, of-mod, c-sym, c-trans, zero-cong, minus-number, back-number}
-use Rattle.matrices.specs.Linear.{at, Vector, scale, zeros, reduce}
-use Rattle.matrices.proofs.Notions.{All, dotN, dot}
+use Rattle.matrices.specs.Linear.{at, All, Vector, scale, zeros, reduce}
+use Rattle.matrices.proofs.Notions.{dotN, dot}
 use Rattle.matrices.specs.Rank.{sameList}
 use Rattle.matrices.proofs.Vectors.{all-map, dot-scaled, dot-zeroed, dot-reduced, length-scale, length-zeros, vector-reduce, vector-zeros}
 use Rattle.secrecy.specs.Lists.{tab}

@@ -11,8 +11,8 @@ use lib.Dec.{T}
 use Rattle.arithmetic.specs.Primes.{Prime}
 use Rattle.arithmetic.proofs.PrimeLaws.{prime-pos}
 use Rattle.arithmetic.proofs.Searches.{T-decide}
-use Rattle.matrices.specs.Linear.{Vector}
-use Rattle.matrices.proofs.Notions.{All, dot, InSpan, Independent, Solution}
+use Rattle.matrices.specs.Linear.{All, Vector}
+use Rattle.matrices.proofs.Notions.{dot, InSpan, Independent, Solution}
 use Rattle.matrices.specs.Rank.{inSpan}
 use Rattle.matrices.proofs.Vectors.{all-append}
 use Rattle.matrices.proofs.Spans.{in-span-iff}

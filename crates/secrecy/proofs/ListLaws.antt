@@ -10,8 +10,8 @@ use native.Mathlib.Omega.{arith}
 use lib.ListN.{length, length-append, List·getD-append, List·getD-eq-default}
 use lib.Seq.{ext-getD, getD-append-add}
 use lib.Dec.{T}
-use Rattle.matrices.specs.Linear.{at, Vector}
-use Rattle.matrices.proofs.Notions.{All, dotN}
+use Rattle.matrices.specs.Linear.{at, All, Vector}
+use Rattle.matrices.proofs.Notions.{dotN}
 use Rattle.matrices.proofs.Vectors.{all-append, all-left, all-right, all-at}
 use Rattle.secrecy.specs.Lists.{tab, joinTo, picked}
 use Rattle.secrecy.specs.Counts.{sumTo, howMany}

@@ -10,8 +10,8 @@ use lib.Dec.{T}
 use Rattle.arithmetic.specs.Primes.{Prime}
 use Rattle.arithmetic.proofs.PrimeLaws.{prime-pos}
 use Rattle.arithmetic.proofs.Congruence.{Cong, of-mod, c-sym, c-trans, zero-not-one}
-use Rattle.matrices.specs.Linear.{Vector, zeros}
-use Rattle.matrices.proofs.Notions.{All, dotN, dot, InSpan, Independent}
+use Rattle.matrices.specs.Linear.{All, Vector, zeros}
+use Rattle.matrices.proofs.Notions.{dotN, dot, InSpan, Independent}
 use Rattle.matrices.proofs.Vectors.{all-append, all-left, all-right}
 use Rattle.matrices.proofs.Spans.{span-dot}
 use Rattle.matrices.proofs.Duality.{orthogonal-cong}

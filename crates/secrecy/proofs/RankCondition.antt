@@ -1,17 +1,14 @@
 -- The rows of a key table that decide whether a pair of coalition and observer leaks: those of the coalition, and those that the observer watches.
-use Prim.Native.Nat.{ℕ, zero, suc, _+_, _*_, _%_, _<_}
-use mathlib.Core.Path.{_≡_}
+use Prim.Native.Nat.{ℕ, zero, suc, _+_, _*_}
 use mathlib.Core.Bool.{Bool, not, _&&_}
 use mathlib.Core.List.{List, [], _∷_}
 use lib.Dec.{ltb}
 use Rattle.arithmetic.specs.Search.{anyTo, allTo}
 use Rattle.arithmetic.specs.Primes.{Prime}
 use Rattle.arithmetic.proofs.PrimeLaws.{prime-pos}
-use Rattle.matrices.specs.Linear.{at, Vector, reduce}
-use Rattle.matrices.proofs.Notions.{All}
+use Rattle.matrices.specs.Linear.{at, All, Vector, reduce}
 use Rattle.matrices.proofs.Vectors.{vector-reduce}
 use Rattle.secrecy.specs.Lists.{tab, picked}
-use Rattle.secrecy.specs.Counts.{sumTo}
 use Rattle.secrecy.specs.Model.{Pool, users, inCoalition, inCluster}
 use Rattle.secrecy.proofs.ListLaws.{tab-vector, entry-below, all-picked}
 use Rattle.secrecy.proofs.Units.{addTo, length-addTo}
@@ -27,10 +24,6 @@ module _ (P : Pool) where
   -- the rows of the coalition
   abbrev pub coalitionRows : ℕ → List (List ℕ)
   coalitionRows g = picked (users P) (inCoalition g) (λ i. row i ∷ [])
-
-  -- the rows sum to 0, column by column
-  abbrev pub ZeroSum : Type 0
-  ZeroSum = (k : ℕ) → k < P .rate → sumTo (users P) (λ i. at (P .table) (i * P .rate + k)) % P .q ≡ 0
 
   -- a user that b picks and that is not in the coalition
   unfoldable pub outside : (ℕ → Bool) → ℕ → ℕ → Bool

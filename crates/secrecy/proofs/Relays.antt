@@ -10,8 +10,8 @@ use lib.Dec.{T, T-not, not-T}
 use Rattle.arithmetic.specs.Primes.{Prime}
 use Rattle.arithmetic.proofs.Searches.{T-and, and-T, T-decide}
 use Rattle.arithmetic.proofs.Congruence.{of-eq}
-use Rattle.matrices.specs.Linear.{Vector}
-use Rattle.matrices.proofs.Notions.{All, dot, Independent}
+use Rattle.matrices.specs.Linear.{All, Vector}
+use Rattle.matrices.proofs.Notions.{dot, Independent}
 use Rattle.secrecy.specs.Lists.{picked}
 use Rattle.secrecy.specs.Model.{Pool, users, inCoalition, setView}
 use Rattle.secrecy.specs.Leaks.{Leak, Symbols, Agree}

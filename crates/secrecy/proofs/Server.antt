@@ -12,18 +12,18 @@ use lib.Arith.{digits-lt}
 use Rattle.arithmetic.specs.Primes.{Prime}
 use Rattle.arithmetic.proofs.Searches.{T-decide}
 use Rattle.arithmetic.proofs.Congruence.{Cong, to-mod, of-eq, of-mod, c-refl, c-sym, c-trans, c-add, c-mul-left, cong-zero, zero-cong, minus-number}
-use Rattle.matrices.specs.Linear.{Vector}
-use Rattle.matrices.proofs.Notions.{All, dotN, dot, Independent}
+use Rattle.matrices.specs.Linear.{All, Vector}
+use Rattle.matrices.proofs.Notions.{dotN, dot, Independent}
 use Rattle.matrices.proofs.Vectors.{all-both}
 use Rattle.secrecy.specs.Lists.{picked}
 use Rattle.secrecy.specs.Counts.{sumTo}
-use Rattle.secrecy.specs.Model.{Pool, users, serverView}
+use Rattle.secrecy.specs.Model.{Pool, users, serverView, ZeroSum}
 use Rattle.secrecy.specs.Leaks.{Leak, Symbols, ServerAgree}
 use Rattle.secrecy.proofs.Sums.{sum-cong, sum-grid, sum-c, sum-left}
 use Rattle.secrecy.proofs.Units.{unit, minus, dot-minus, dot-minus-is, dot-addTo, dot-units-one}
 use Rattle.secrecy.proofs.Forms.{Unseen, MakesUp}
 use Rattle.secrecy.proofs.Readings.{Enough}
-use Rattle.secrecy.proofs.RankCondition.{row, sumRow, coalitionRows, ZeroSum, opened, tested, sum-row-vector}
+use Rattle.secrecy.proofs.RankCondition.{row, sumRow, coalitionRows, opened, tested, sum-row-vector}
 use Rattle.secrecy.proofs.PoolForms.{sumForm, units, ones, server-forms}
 use Rattle.secrecy.proofs.Coalitions.{unit-unseen, member-made}
 use Rattle.secrecy.proofs.Clusters.{sum-units, sum-row, rows-none, opened-by, closed-all, tested-opened, tested-later, made-tested}

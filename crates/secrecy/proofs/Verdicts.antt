@@ -14,14 +14,14 @@ use Rattle.matrices.specs.Linear.{Vector}
 use Rattle.matrices.proofs.Notions.{Independent}
 use Rattle.matrices.specs.Rank.{rankOver, rankOf}
 use Rattle.matrices.proofs.RankLaws.{rank-append, full-rank-iff}
-use Rattle.secrecy.specs.Model.{Pool, users, inCluster, view}
+use Rattle.secrecy.specs.Model.{Pool, users, inCluster, view, ZeroSum}
 use Rattle.secrecy.specs.Leaks.{number, leaks, Symbols, Leak, Agrees, PairLeak}
 use Rattle.secrecy.proofs.Readings.{Enough, symbols-enough, small-enough}
 use Rattle.secrecy.proofs.Relays.{set-keeps, set-either}
 use Rattle.secrecy.proofs.Server.{server-keeps, server-either}
 use Rattle.secrecy.proofs.LeakTest.{search-iff}
 pub use Rattle.secrecy.proofs.Readings.{Small}
-pub use Rattle.secrecy.proofs.RankCondition.{row, sumRow, coalitionRows, outside, opened, tested, ZeroSum, watchedRows}
+pub use Rattle.secrecy.proofs.RankCondition.{row, sumRow, coalitionRows, outside, opened, tested, watchedRows}
 pub use Rattle.secrecy.proofs.RankCondition.{row-vector, sum-row-vector, coalition-vectors, watched-vectors}
 
 -- one or the other, and not both

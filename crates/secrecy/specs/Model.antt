@@ -1,7 +1,8 @@
 -- The equations of source document 000, and what each observer sees. Users, clusters and positions count from 0; an observer is document 01's
 -- number: 0 for the server (document 01: desk), u for relay u (gateway). Readings of L positions stand user by user, L symbols each; a source key
 -- (key block) stands position by position, `rate` symbols each.
-use Prim.Native.Nat.{ℕ, zero, suc, _+_, _*_, _/_, _%_, _^_}
+use Prim.Native.Nat.{ℕ, zero, suc, _+_, _*_, _/_, _%_, _^_, _<_}
+use mathlib.Core.Path.{_≡_}
 use mathlib.Core.Bool.{Bool}
 use mathlib.Core.List.{List, _++_}
 use lib.Dec.{eqb}
@@ -32,6 +33,10 @@ module _ (P : Pool) where
   -- is user i in cluster u?
   unfoldable pub inCluster : ℕ → ℕ → Bool
   inCluster u i = eqb (i / P .size) u
+
+  -- the rows of the key table sum to zero, column by column
+  abbrev pub ZeroSum : Type 0
+  ZeroSum = (k : ℕ) → k < P .rate → sumTo users (λ i. at (P .table) (i * P .rate + k)) % P .q ≡ 0
 
   -- ---- what is sent
 

@@ -12,22 +12,20 @@ use Rattle.refusals.proofs.CodeLaws.{numbered}
 use Rattle.arithmetic.specs.Primes.{Prime, allBelow}
 use Rattle.arithmetic.proofs.Searches.{T-decide, T→true, true→T, not-T→false}
 use Rattle.arithmetic.proofs.PrimeLaws.{prime-pos, below-at}
-use Rattle.matrices.specs.Linear.{Vector}
-use Rattle.matrices.proofs.Notions.{All}
+use Rattle.matrices.specs.Linear.{All, Vector}
 use Rattle.matrices.proofs.Vectors.{all-map, all-right}
-use Rattle.secrecy.specs.Model.{view}
+use Rattle.secrecy.specs.Model.{view, ZeroSum}
 use Rattle.secrecy.specs.Leaks.{number, leaks, Symbols, Leak, Agrees, PairLeak}
-use Rattle.secrecy.proofs.RankCondition.{ZeroSum}
 use Rattle.secrecy.proofs.Verdicts.{Small, leaks-iff, equal-numbers, small-leak}
 use Rattle.plans.specs.declared.Plan.{Plan}
 use Rattle.vetting.specs.declared.Pair.{Pair}
 use Rattle.plans.specs.Plans.{poolOf, usersOf}
-use Rattle.vetting.specs.Walk.{pairs}
+use Rattle.vetting.specs.Walk.{pairs, InWalk, First}
 use Rattle.vetting.specs.Verdict.{columnSum, leakCheck, otherChecks, verdict, columnChecks}
 use Rattle.refusals.proofs.Orders.{rest-decides, first-accepts}
 use Rattle.plans.proofs.TableLaws.{table-passed}
 use Rattle.vetting.proofs.VerdictLaws.{columns-numbered, columns-passed}
-pub use Rattle.vetting.proofs.PairLists.{InWalk, pairs-in, in-pairs}
+pub use Rattle.vetting.proofs.PairLists.{pairs-in, in-pairs}
 
 -- ---- a plan that passes the other checks
 
@@ -50,13 +48,6 @@ checked P K e =
     }
 
 -- ---- the first of a list that has a property
-
-pub record First (Q : Pair → Type 0) (l : List Pair) (p : Pair) : Type 0 where
-  pub before : List Pair
-  pub after : List Pair
-  pub split : l ≡ before ++ (p ∷ after)
-  pub none : All (λ x. ¬ (Q x)) before
-  pub here : Q p
 
 abbrev leakCode : Pair → Code
 leakCode p = record { number = 7; first = p .coalition; second = p .observer }

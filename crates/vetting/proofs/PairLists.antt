@@ -9,7 +9,7 @@ use native.Mathlib.Omega.{arith}
 use lib.Dec.{T, leb, leb→le}
 use borrow.Author.Tests.{le-leb}
 use Rattle.arithmetic.proofs.Searches.{true→T}
-use Rattle.matrices.proofs.Notions.{All}
+use Rattle.matrices.specs.Linear.{All}
 use Rattle.matrices.proofs.Vectors.{all-append, all-left, all-right}
 use Rattle.secrecy.specs.Lists.{tab, joinTo, picked}
 use Rattle.secrecy.specs.Counts.{howMany}
@@ -17,13 +17,7 @@ use Rattle.secrecy.specs.Model.{inCoalition}
 use Rattle.plans.specs.declared.Plan.{Plan}
 use Rattle.vetting.specs.declared.Pair.{Pair}
 use Rattle.plans.specs.Plans.{usersOf}
-use Rattle.vetting.specs.Walk.{observers, pairs}
-
--- a coalition of at most `limit` of the users, and an observer: 0, or the number of a relay
-pub record InWalk (P : Plan) (g w : ℕ) : Type 0 where
-  pub users : g < 2 ^ usersOf P
-  pub few : howMany (usersOf P) (inCoalition g) ≤ P .limit
-  pub observer : w ≤ P .clusters
+use Rattle.vetting.specs.Walk.{observers, pairs, InWalk}
 
 module _ {A : Type 0} (Q : A → Type 0) where
   all-tab : (n : ℕ) (f : ℕ → ℕ) (h : ℕ → A) → ((k : ℕ) → k < n → Q (h (f k))) → All Q (map h (tab n f))

@@ -11,8 +11,7 @@ use lib.Dec.{T, ltb}
 use Rattle.arithmetic.specs.Primes.{allBelow}
 use Rattle.arithmetic.proofs.Searches.{T-and, and-T}
 use Rattle.arithmetic.proofs.PrimeLaws.{at-below}
-use Rattle.matrices.specs.Linear.{Vector}
-use Rattle.matrices.proofs.Notions.{All}
+use Rattle.matrices.specs.Linear.{All, Vector}
 use Rattle.matrices.specs.Tables.{rowsOf}
 use Rattle.secrecy.specs.Lists.{joinTo, picked}
 

@@ -11,8 +11,8 @@ use lib.ListN.{length}
 use borrow.Author.Tests.{eq-eqb, ne-eqb}
 use Rattle.arithmetic.specs.Primes.{Prime}
 use Rattle.arithmetic.proofs.PrimeLaws.{prime-pos}
-use Rattle.matrices.specs.Linear.{Vector}
-use Rattle.matrices.proofs.Notions.{All, InSpan, Independent}
+use Rattle.matrices.specs.Linear.{All, Vector}
+use Rattle.matrices.proofs.Notions.{InSpan, Independent}
 use Rattle.matrices.specs.Rank.{rankOver, rankOf}
 use Rattle.matrices.specs.Tables.{rowOf, pivotsFrom}
 use Rattle.matrices.proofs.Vectors.{all-left, all-right, all-snoc}

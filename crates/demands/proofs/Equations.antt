@@ -9,9 +9,8 @@ use Rattle.arithmetic.specs.Field.{sumOf}
 use Rattle.arithmetic.proofs.Congruence.{residue-mod}
 use Rattle.matrices.specs.Linear.{at}
 use Rattle.secrecy.specs.Lists.{tab}
-use Rattle.secrecy.specs.Model.{Pool, reading, key, upload}
+use Rattle.secrecy.specs.Model.{Pool, reading, key, upload, ZeroSum}
 use Rattle.secrecy.proofs.ListLaws.{at-tab, length-tab, tab-cong}
-use Rattle.secrecy.proofs.RankCondition.{ZeroSum}
 use Rattle.plans.specs.declared.Plan.{Plan}
 use Rattle.plans.specs.Plans.{poolOf, usersOf}
 use Rattle.vetting.specs.Walk.{pairs}

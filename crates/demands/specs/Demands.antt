@@ -1,0 +1,155 @@
+-- The demands, sentence by sentence. A statement is a type, and proofs/Demands has something of each. The promises of the code name the same definitions:
+-- the vet's answer is `verdict`, an upload `uploadOf`, a round after some calls `runOf`, and so on.
+use Prim.Native.Nat.{ℕ, suc, _+_, _-_, _*_, _≤_, _<_}
+use mathlib.Core.Path.{_≡_}
+use mathlib.Core.Logic.{_↔_}
+use mathlib.Core.Bool.{Bool, true}
+use mathlib.Core.List.{List, [], _++_}
+use lib.ListN.{length, take, drop}
+use Rattle.refusals.specs.Codes.{accepted, firstOf, ifAccepted}
+use Rattle.matrices.specs.Linear.{at, All, Vector}
+use Rattle.secrecy.specs.Lists.{tab}
+use Rattle.secrecy.specs.Model.{Pool, reading, key, upload, relaySum, total, ZeroSum, view}
+use Rattle.secrecy.specs.Leaks.{number, Symbols, Agrees, PairLeak}
+use Rattle.plans.specs.declared.Plan.{Plan}
+use Rattle.plans.specs.Plans.{poolOf, usersOf}
+use Rattle.vetting.specs.declared.Pair.{Pair}
+use Rattle.vetting.specs.Walk.{pairs, InWalk, First}
+use Rattle.vetting.specs.Verdict.{otherChecks, verdict}
+use Rattle.keys.specs.Keys.{keysOf}
+use Rattle.masking.specs.Blocks.{uploadOf, unmaskedOf}
+use Rattle.rounds.specs.declared.Round.{Round}
+use Rattle.rounds.specs.Ledger.{Frame}
+use Rattle.rounds.specs.Rounds.{oneOf, openChecks, opened, stateChecks, after, giveCode, answersOf, runOf, ledgerAnswers, ledgerOf, everyone, Carries}
+use Rattle.records.specs.Records.{recordOf, planRead, tableRead, start, readVerdict, writeVerdict}
+use Rattle.streams.specs.Streams.{drawn, positionAfterAll, symbolsDrawn, placesDrawn}
+
+-- ---- demand 2: a plan P with key table K, blocks of L symbols, readings W, a source key (document 01: key block) N
+
+module _ (P : Plan) (K : List ℕ) (L : ℕ) (W N : List ℕ) where
+  abbrev pool : Pool
+  pool = poolOf P K
+
+  -- user i's L symbols of the individual keys
+  abbrev keyOf : ℕ → List ℕ
+  keyOf i = take L (drop (i * L) (keysOf P K L N))
+
+  -- "Keys .. equal source document 000's equations modulo the prime": (22)
+  abbrev pub KeysAre : Type 0
+  KeysAre = (i : ℕ) → i < usersOf P → keyOf i ≡ tab L (key pool N i)
+
+  -- "uploads": (25)
+  abbrev pub UploadsAre : Type 0
+  UploadsAre =
+      0 < P .q → (i : ℕ) → i < usersOf P
+      → uploadOf (P .q) L (tab L (reading L W i)) (keyOf i) ≡ tab L (upload pool L W N i)
+
+  -- rounds, opened with the plan's counts, where the opening is not refused
+  module _ (round : ℕ) where
+    abbrev opening : Round
+    opening = opened (P .clusters) (P .size) (P .q) L round
+
+    abbrev opens : Bool → Type 0
+    opens known = accepted ≡ firstOf (openChecks (P .clusters) (P .size) (P .q) L known)
+
+    -- the block of user v, from 1, of cluster u, from 0
+    abbrev sent : ℕ → ℕ → List ℕ
+    sent u v = tab L (upload pool L W N (u * P .size + (v - 1)))
+
+    -- "relay sums": (26). Whatever frames a relay gets, in whatever order, if those that count carry their senders' uploads and everyone is counted
+    abbrev pub RelaySumsAre : Type 0
+    RelaySumsAre =
+        (u : ℕ) (frames : List Frame) → opens (oneOf (P .clusters) (suc u))
+        → All (Carries (P .size) (oneOf (P .clusters) (suc u)) opening (sent u)) frames
+        → everyone (P .size) (oneOf (P .clusters) (suc u)) opening frames ≡ true
+        → (p : ℕ) → p < L → at (runOf (P .size) (oneOf (P .clusters) (suc u)) opening frames .sums) p ≡ relaySum pool L W N u p
+
+    -- what relay s, from 1, holds after the frames that it gets
+    abbrev relayed : (ℕ → List Frame) → ℕ → List ℕ
+    relayed heard s = take L (runOf (P .size) (oneOf (P .clusters) s) opening (heard (s - 1)) .sums)
+
+    -- "When one key block under a zero-sum table masks each user once, the total is the sum of the readings modulo the prime, in whatever order frames
+    -- arrive": each relay gets any frames as above, the server any frames of which those that count carry what the relays hold; once everyone is counted
+    -- the server gives its sums out, and they are the totals
+    abbrev pub TotalIsSum : Type 0
+    TotalIsSum =
+        ZeroSum pool → opens true
+        → (heard : ℕ → List Frame)
+        → ((u : ℕ) → u < P .clusters → All (Carries (P .size) (oneOf (P .clusters) (suc u)) opening (sent u)) (heard u))
+        → ((u : ℕ) → u < P .clusters → everyone (P .size) (oneOf (P .clusters) (suc u)) opening (heard u) ≡ true)
+        → (frames : List Frame)
+        → All (Carries (P .clusters) true opening (relayed heard)) frames → everyone (P .clusters) true opening frames ≡ true
+        → (out : List ℕ) → length out ≡ L
+        → (giveCode (P .clusters) true (runOf (P .clusters) true opening frames) out ≡ accepted)
+        × (take L (runOf (P .clusters) true opening frames .sums) ≡ tab L (total pool L W))
+
+-- the key table of a plan that the vet accepts is a zero-sum table
+abbrev pub AcceptedIsZeroSum : Type 0
+AcceptedIsZeroSum = (P : Plan) (K : List ℕ) → accepted ≡ verdict P K → ZeroSum (poolOf P K)
+
+-- "taking a key off its upload gives the reading back"
+abbrev pub Unmasks : Type 0
+Unmasks = (q L : ℕ) (W Z : List ℕ) → Vector q L W → unmaskedOf q L (uploadOf q L W Z) Z ≡ W
+
+-- ---- demand 3: a plan P with key table K
+
+module _ (P : Plan) (K : List ℕ) where
+  -- "For any accepted plan, any coalition up to its limit, any observer (one relay, or the server), any block length and any view: every two sets of readings
+  -- that agree on the coalition and, for the server, on the total, have the same number of key blocks that show that view."
+  abbrev pub EqualNumbers : Type 0
+  EqualNumbers =
+      accepted ≡ verdict P K
+      → (g w : ℕ) → InWalk P g w
+      → (L : ℕ) → 1 ≤ L → L ≤ 64
+      → (W W′ : List ℕ) → Symbols (P .q) (usersOf P) L W → Symbols (P .q) (usersOf P) L W′ → Agrees (poolOf P K) g w L W W′
+      → (s : List ℕ)
+      → number (P .q) (P .rate) (view (poolOf P K) g w) L W s ≡ number (P .q) (P .rate) (view (poolOf P K) g w) L W′ s
+
+  -- "A plan that passes the other checks is refused as leaking exactly when, for some coalition, observer and block length, some such pair has unequal
+  -- numbers for some view"
+  abbrev pub RefusedIfLeaks : Type 0
+  RefusedIfLeaks =
+      accepted ≡ firstOf (otherChecks P K)
+      → _≡_ {A = ℕ} (verdict P K .number) 7 ↔ ((g : ℕ) × (w : ℕ) × InWalk P g w × PairLeak (poolOf P K) g w)
+
+  -- "the refusal names the first such coalition and observer"
+  abbrev pub NamesFirst : Type 0
+  NamesFirst =
+      accepted ≡ firstOf (otherChecks P K)
+      → (p : Pair)
+      → (verdict P K ≡ record { number = 7; first = p .coalition; second = p .observer })
+      ↔ First (λ p. PairLeak (poolOf P K) (p .coalition) (p .observer)) (pairs (P .clusters) (P .size) (P .limit)) p
+
+-- ---- rounds, records and key streams
+
+-- "A round answers as a roll of names and a running sum would": for every state that is handed in, good or bad, and any frames, of so many senders
+abbrev pub AnswersAsLedger : Type 0
+AnswersAsLedger =
+    (senders : ℕ) (known : Bool) (R : Round) → length (R .sums) ≡ 64 → (frames : List Frame)
+    → (answersOf senders known R frames ≡ ledgerAnswers senders known R [] frames)
+    × (runOf senders known R frames ≡ ifAccepted (firstOf (stateChecks senders known R)) (after R (ledgerOf senders known R [] frames)) R)
+
+-- "writing then reading returns the plan": whatever stands before the record
+abbrev pub WrittenIsRead : Type 0
+WrittenIsRead =
+    (before : List ℕ) (P : Plan) (K out lent : List ℕ) → accepted ≡ writeVerdict P K out → length lent ≡ 256
+    → (accepted ≡ readVerdict (before ++ recordOf P K) lent) × (planRead (before ++ recordOf P K) ≡ P) × (tableRead (before ++ recordOf P K) ≡ K)
+
+-- "Each plan has one record": the bytes from the first on are the same
+abbrev pub OneRecord : Type 0
+OneRecord =
+    (B C lent : List ℕ) → ((i : ℕ) → at B i < 256) → ((i : ℕ) → at C i < 256)
+    → accepted ≡ readVerdict B lent → accepted ≡ readVerdict C lent
+    → planRead B ≡ planRead C → tableRead B ≡ tableRead C
+    → drop (start B) B ≡ drop (start C) C
+
+-- "No symbol is drawn twice from a position that only draws have moved": a run of draws gives the symbols between its first position and its last, each is
+-- the stream's at its place, and no two have the same place
+abbrev pub DrawnOnce : Type 0
+DrawnOnce =
+    (stream : List ℕ) (position : ℕ) (draws : List (ℕ × List ℕ))
+    → (symbolsDrawn stream position draws ≡ drawn stream position (positionAfterAll stream position draws - position))
+    × ((k : ℕ) → k < length (placesDrawn stream position draws)
+    → at (symbolsDrawn stream position draws) k ≡ at stream (at (placesDrawn stream position draws) k))
+    × ((i j : ℕ) → i < length (placesDrawn stream position draws) → j < length (placesDrawn stream position draws)
+    → at (placesDrawn stream position draws) i ≡ at (placesDrawn stream position draws) j → i ≡ j)
