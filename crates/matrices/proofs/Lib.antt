@@ -1,3 +1,4 @@
+pub mod OneRank
 pub mod Notions
 pub mod Vectors
 pub mod Spans

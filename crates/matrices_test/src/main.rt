@@ -1,5 +1,6 @@
 // Holds the library matrices to a second implementation, written another way, and writes how many results agree.
 // A case is made of its number alone, so that each can be looked at by itself.
+mod copies;
 mod elimination;
 mod known_ranks;
 mod numbers;
@@ -24,6 +25,7 @@ fn write_name(group: usize) -> bool {
         3 => io::write_all(STDOUT_FILENO, b"elimination: "),
         4 => io::write_all(STDOUT_FILENO, b"wrong shapes: "),
         5 => io::write_all(STDOUT_FILENO, b"refusals: "),
+        6 => io::write_all(STDOUT_FILENO, b"copies: "),
         _ => io::write_all(STDOUT_FILENO, b"total: "),
     }
 }
@@ -35,7 +37,8 @@ fn cases(group: usize) -> usize {
         2 => 2000,
         3 => 5000,
         4 => wrong_shapes::CASES,
-        _ => refused::CASES,
+        5 => refused::CASES,
+        _ => copies::CASES,
     }
 }
 
@@ -47,7 +50,8 @@ fn length(group: usize, case: usize) -> usize {
         2 => known_ranks::length(case),
         3 => elimination::length(case),
         4 => wrong_shapes::length(case),
-        _ => refused::length(case),
+        5 => refused::length(case),
+        _ => copies::length(case),
     }
 }
 
@@ -59,7 +63,8 @@ fn compare(group: usize, case: usize, t: &mut [Symbol], other: &mut [Symbol]) ->
         2 => known_ranks::reduces(case, t, other),
         3 => elimination::agrees(case, t, other),
         4 => wrong_shapes::agrees(case, t, other),
-        _ => refused::agrees(case, t),
+        5 => refused::agrees(case, t),
+        _ => copies::agrees(case, t, other),
     }
 }
 
@@ -94,12 +99,12 @@ fn write_line(group: usize, n: usize, cases: usize) {
 fn main() {
     let mut total: usize = 0;
     let mut all: usize = 0;
-    for group in 0usize..6 {
+    for group in 0usize..7 {
         let m = cases(group);
         let n = tally(group, m);
         write_line(group, n, m);
         total = wrapping_add_usize(total, n);
         all = wrapping_add_usize(all, m);
     }
-    write_line(6, total, all);
+    write_line(7, total, all);
 }

@@ -1,2 +1,3 @@
+pub mod OnePlan
 pub mod PlanBounds
 pub mod TableLaws
