@@ -11,7 +11,7 @@ use Rattle.arithmetic.specs.Field.{powerOf, inverseBelow, inverseOf}
 use Rattle.matrices.specs.Tables.{pivotOf, scaled, fused, cleared, eachRow, eliminatedFrom, pivotsFrom}
 use Rattle.secrecy.specs.Lists.{tab, joinTo, picked}
 use Rattle.secrecy.specs.Counts.{sumTo, howMany}
-use Rattle.secrecy.specs.Model.{inCoalition, reading, key, upload, relaySum, total}
+use Rattle.secrecy.specs.Model.{reading, key, upload, relaySum, total}
 use Rattle.plans.specs.Plans.{plan, poolOf, planChecks}
 use Rattle.vetting.specs.Walk.{pairs, observers}
 use Rattle.vetting.specs.Verdict.{columnSum, verdict}
@@ -21,7 +21,8 @@ use Rattle.keys.specs.Keys.{keysOf}
 use Rattle.vetting.proofs.VerdictLaws.{walk-verdict}
 use Rattle.masking.specs.Blocks.{uploadOf}
 use Rattle.rounds.specs.Ledger.{frame, named, bitsOf, countedAt}
-use Rattle.rounds.specs.Rounds.{hasBit, opened, runOf}
+use Rattle.arithmetic.specs.Bits.{hasBit}
+use Rattle.rounds.specs.Rounds.{opened, runOf}
 
 -- the pool's rows, its source symbols and its readings
 abbrev rows : List ℕ
@@ -43,7 +44,7 @@ made = refl
 
 -- "the vet accepts it"
 pub accepts : verdict (plan 2 2 1 3 5) rows ≡ accepted
-unfolding isPrime allTo allBelow columnSum sumTo tab pairs observers picked joinTo howMany inCoalition firstHit dependent baseTable clusterSum membersFrom reducedBy openMask testedMask pivotOf scaled fused cleared eachRow eliminatedFrom pivotsFrom inverseBelow
+unfolding isPrime allTo allBelow columnSum sumTo tab pairs observers picked joinTo howMany hasBit firstHit dependent baseTable clusterSum membersFrom reducedBy openMask testedMask pivotOf scaled fused cleared eachRow eliminatedFrom pivotsFrom inverseBelow
 accepts = sym (walk-verdict (plan 2 2 1 3 5) rows refl)
 
 -- "N = (1,2,3) deals keys 1, 2, 2, 0"
@@ -83,7 +84,7 @@ shown = refl
 
 -- "the same table with T 2 is refused 7, gang 3, watcher 2"; "the maker with T 2 refuses 10"
 pub leaks-to-two : verdict (plan 2 2 2 3 5) rows ≡ record { number = 7; first = 3; second = 2 }
-unfolding isPrime allTo allBelow columnSum sumTo tab pairs observers picked joinTo howMany inCoalition firstHit dependent baseTable clusterSum membersFrom reducedBy openMask testedMask pivotOf scaled fused cleared eachRow eliminatedFrom pivotsFrom inverseBelow
+unfolding isPrime allTo allBelow columnSum sumTo tab pairs observers picked joinTo howMany hasBit firstHit dependent baseTable clusterSum membersFrom reducedBy openMask testedMask pivotOf scaled fused cleared eachRow eliminatedFrom pivotsFrom inverseBelow
 leaks-to-two = sym (walk-verdict (plan 2 2 2 3 5) rows refl)
 
 pub limit-too-large : (out : List ℕ) → firstOf (makerChecks 2 2 2 5 2 out) ≡ code 10
@@ -92,7 +93,7 @@ limit-too-large out = refl
 
 -- "U 2, V 1, T 0, R 1, q 5, rows (0), (0): 7, gang 0, watcher 1"; "rows (1), (1): 6, column 1"
 pub zero-rows : verdict (plan 2 1 0 1 5) (0 ∷ 0 ∷ []) ≡ record { number = 7; first = 0; second = 1 }
-unfolding isPrime allTo allBelow columnSum sumTo tab pairs observers picked joinTo howMany inCoalition firstHit dependent baseTable clusterSum membersFrom reducedBy openMask testedMask pivotOf scaled fused cleared eachRow eliminatedFrom pivotsFrom inverseBelow
+unfolding isPrime allTo allBelow columnSum sumTo tab pairs observers picked joinTo howMany hasBit firstHit dependent baseTable clusterSum membersFrom reducedBy openMask testedMask pivotOf scaled fused cleared eachRow eliminatedFrom pivotsFrom inverseBelow
 zero-rows = sym (walk-verdict (plan 2 1 0 1 5) (0 ∷ 0 ∷ []) refl)
 
 pub first-column : verdict (plan 2 1 0 1 5) (1 ∷ 1 ∷ []) ≡ record { number = 6; first = 1; second = 0 }
@@ -101,7 +102,7 @@ first-column = refl
 
 -- "U 1, V 1, T 0, R 1, q 5, row (0): 7, gang 0, watcher 1"
 pub one-user : verdict (plan 1 1 0 1 5) (0 ∷ []) ≡ record { number = 7; first = 0; second = 1 }
-unfolding isPrime allTo allBelow columnSum sumTo tab pairs observers picked joinTo howMany inCoalition firstHit dependent baseTable clusterSum membersFrom reducedBy openMask testedMask pivotOf scaled fused cleared eachRow eliminatedFrom pivotsFrom inverseBelow
+unfolding isPrime allTo allBelow columnSum sumTo tab pairs observers picked joinTo howMany hasBit firstHit dependent baseTable clusterSum membersFrom reducedBy openMask testedMask pivotOf scaled fused cleared eachRow eliminatedFrom pivotsFrom inverseBelow
 one-user = sym (walk-verdict (plan 1 1 0 1 5) (0 ∷ []) refl)
 
 -- "q 9 is refused 2"; "γ 5 with q 5 is refused 3"; "modulo 5 the inverse of 3 is 2"

@@ -17,7 +17,8 @@ use Rattle.plans.proofs.PlanBounds.{length-known}
 use Rattle.refusals.proofs.Orders.{rest-decides, first-accepts}
 use Rattle.rounds.specs.declared.Round.{Round}
 use Rattle.rounds.specs.Ledger.{Frame, named}
-use Rattle.rounds.specs.Rounds.{hasBit, oneOf, openChecks, sumsFit, hasReported, stateChecks, frameChecks, giveChecks}
+use Rattle.arithmetic.specs.Bits.{hasBit}
+use Rattle.rounds.specs.Rounds.{oneOf, openChecks, sumsFit, hasReported, stateChecks, frameChecks, giveChecks}
 use Rattle.rounds.specs.Machine.{contentChecks}
 
 -- ---- the tests of an opening, and then those of what the round holds, are those of a state: 8 is asked in both

@@ -24,7 +24,8 @@ use Rattle.secrecy.proofs.ListLaws.{at-tab, length-tab, tab-at, tab-cong}
 use Rattle.refusals.proofs.Orders.{rest-decides}
 use Rattle.rounds.specs.declared.Round.{Round}
 use Rattle.rounds.specs.Ledger.{Frame, named, bitsOf, countedAt}
-use Rattle.rounds.specs.Rounds.{hasBit, oneOf, sumsFit, stateChecks, hasReported, after, frameChecks, giveChecks, stepCode, stepped, answersOf, runOf, noted, ledgerAnswers, ledgerOf}
+use Rattle.arithmetic.specs.Bits.{hasBit}
+use Rattle.rounds.specs.Rounds.{oneOf, sumsFit, stateChecks, hasReported, after, frameChecks, giveChecks, stepCode, stepped, answersOf, runOf, noted, ledgerAnswers, ledgerOf}
 use Rattle.rounds.proofs.CheckLaws.{Good, good-state, Passed, frame-known}
 use Rattle.rounds.proofs.ReportedLaws.{true-not-false, bit-added, added-below}
 use Rattle.rounds.proofs.StepLaws.{all-cong, or-none, past-zero}

@@ -22,7 +22,8 @@ use Rattle.secrecy.specs.Lists.{tab}
 use Rattle.secrecy.proofs.ListLaws.{at-tab, length-tab, tab-at, tab-cong}
 use Rattle.rounds.specs.declared.Round.{Round}
 use Rattle.rounds.specs.Ledger.{Frame, named, bitsOf, countedAt}
-use Rattle.rounds.specs.Rounds.{hasBit, hasReported, after}
+use Rattle.arithmetic.specs.Bits.{hasBit}
+use Rattle.rounds.specs.Rounds.{hasReported, after}
 use Rattle.rounds.specs.Machine.{Countable, withSums, withReported, addedTo, countedRound}
 use Rattle.rounds.proofs.CheckLaws.{Passed}
 

@@ -13,7 +13,8 @@ use Rattle.matrices.specs.Linear.{at}
 use Rattle.secrecy.specs.Lists.{tab}
 use Rattle.rounds.specs.declared.Round.{Round}
 use Rattle.rounds.specs.Ledger.{Frame}
-use Rattle.rounds.specs.Rounds.{hasBit, oneOf, sumsFit, hasReported}
+use Rattle.arithmetic.specs.Bits.{hasBit}
+use Rattle.rounds.specs.Rounds.{oneOf, sumsFit, hasReported}
 
 -- what is left of the checks of a state once its counts, prime and length are good
 abbrev pub contentChecks : ℕ → Round → List (Bool × Code)

@@ -1,7 +1,7 @@
 -- Rounds: what a step answers and what it hands back, for every state that can be handed in, good or bad. A round is what it was when it was handed
 -- in, and the ledger of the frames counted since; an opened round had nobody on its roll and sums of 0, so that it is its ledger alone.
 -- A relay (document 01: gateway) hears the users of its cluster, the server (desk) the relays; all else is said once, for both.
-use Prim.Native.Nat.{ℕ, suc, _+_, _-_, _/_, _%_, _^_}
+use Prim.Native.Nat.{ℕ, suc, _+_, _-_, _%_, _^_}
 use mathlib.Core.Path.{_≡_}
 use mathlib.Core.Bool.{Bool, true, cond, not, _&&_, _||_}
 use mathlib.Core.List.{List, [], _∷_, _++_}
@@ -10,6 +10,7 @@ use lib.ListN.{length, take, drop}
 use Rattle.refusals.specs.declared.Code.{Code}
 use Rattle.refusals.specs.Codes.{code, accepted, firstOf, ifAccepted}
 use Rattle.arithmetic.specs.Search.{allTo}
+use Rattle.arithmetic.specs.Bits.{hasBit}
 use Rattle.arithmetic.specs.Primes.{isPrime, allBelow}
 use Rattle.matrices.specs.Linear.{at, zeros}
 use Rattle.secrecy.specs.Lists.{tab}
@@ -19,10 +20,6 @@ use Rattle.rounds.specs.declared.RelayRound.{RelayRound}
 use Rattle.rounds.specs.declared.ServerRound.{ServerRound}
 use Rattle.plans.specs.Plans.{lengthFits}
 use Rattle.rounds.specs.Ledger.{Frame, named, bitsOf, countedAt}
-
--- is bit i of n set?
-unfoldable pub hasBit : ℕ → ℕ → Bool
-hasBit n i = eqb (n / 2 ^ i % 2) 1
 
 -- is this number one of 1 to n?
 abbrev pub oneOf : ℕ → ℕ → Bool

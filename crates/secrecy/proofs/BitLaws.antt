@@ -12,8 +12,8 @@ use lib.Pow.{pow-pos, pow-mono, pow-lt, mod-pow-add, shl-exact, shl-lt, ones-lt,
 use lib.Count.{ones, ones-cat, trailingZeros}
 use borrow.Author.Tests.{eq-eqb, ne-eqb, lt-ltb, le-ltb, le-leb, lt-leb, ltb-true, ltb-false}
 use Rattle.arithmetic.specs.Search.{allTo}
+use Rattle.arithmetic.specs.Bits.{hasBit}
 use Rattle.secrecy.specs.Counts.{sumTo, howMany}
-use Rattle.secrecy.specs.Model.{inCoalition}
 
 pub lt-or-ge : (a b : ℕ) → (a < b) ⊎ (b ≤ a)
 lt-or-ge a b = go (ltb a b) refl
@@ -41,8 +41,8 @@ ones-digit : (n : ℕ) → ones (n % 2) ≡ cond (eqb (n % 2) 1) 1 0
 unfolding ones
 ones-digit n = ⊎-elim (λ e. rw e refl) (λ e. rw e refl) (digit n)
 
-many-ones : (k g : ℕ) → howMany k (inCoalition g) ≡ ones (g % 2 ^ k)
-unfolding howMany sumTo inCoalition ones
+many-ones : (k g : ℕ) → howMany k (hasBit g) ≡ ones (g % 2 ^ k)
+unfolding howMany sumTo hasBit ones
 many-ones zero g = sym (ap ones (mod-one g))
 many-ones (suc k) g =
     ap (λ (z : ℕ). z + cond (eqb (g / 2 ^ k % 2) 1) 1 0) (many-ones k g)
@@ -53,7 +53,7 @@ many-ones (suc k) g =
     ∙ ap (λ (z : ℕ). ones (g % 2 ^ z)) (one-add k)
 
 -- the machine's count is that of the members
-pub ones-many : (k g : ℕ) → g < 2 ^ k → ones g ≡ howMany k (inCoalition g)
+pub ones-many : (k g : ℕ) → g < 2 ^ k → ones g ≡ howMany k (hasBit g)
 ones-many k g h = sym (many-ones k g ∙ ap ones (mod-eq-of-lt h))
 
 -- ---- a mask of v ones from a place
@@ -73,8 +73,8 @@ even-twice : (m : ℕ) → m * 2 % 2 ≡ 0
 even-twice m = omega arith
 
 -- below the mask
-pub mask-under : (m k i : ℕ) → i < k → inCoalition (m * 2 ^ k) i ≡ false
-unfolding inCoalition
+pub mask-under : (m k i : ℕ) → i < k → hasBit (m * 2 ^ k) i ≡ false
+unfolding hasBit
 mask-under m k i h =
     let d : k ≡ suc (k - suc i) + i = omega arith in
     let p : m * 2 ^ k ≡ m * 2 ^ (k - suc i) * 2 * 2 ^ i =
@@ -84,13 +84,13 @@ mask-under m k i h =
     ap (λ (z : ℕ). eqb z 1) z
 
 -- from its place on
-pub mask-from : (m k j : ℕ) → inCoalition (m * 2 ^ k) (k + j) ≡ inCoalition m j
-unfolding inCoalition
+pub mask-from : (m k j : ℕ) → hasBit (m * 2 ^ k) (k + j) ≡ hasBit m j
+unfolding hasBit
 mask-from m k j = ap (λ (z : ℕ). eqb (z % 2) 1) (sym (shr-shr (m * 2 ^ k) k j) ∙ ap (λ (z : ℕ). z / 2 ^ j) (shl-shr m k))
 
 -- v ones, and nothing above them
-pub ones-in : (v j : ℕ) → j < v → inCoalition (2 ^ v - 1) j ≡ true
-unfolding inCoalition
+pub ones-in : (v j : ℕ) → j < v → hasBit (2 ^ v - 1) j ≡ true
+unfolding hasBit
 ones-in v j h =
     let d : v ≡ suc (v - suc j) + j = omega arith in
     let e : (2 ^ v - 1) / 2 ^ j ≡ 2 ^ suc (v - suc j) - 1 =
@@ -99,21 +99,21 @@ ones-in v j h =
     let o : (2 ^ suc (v - suc j) - 1) % 2 ≡ 1 = omega (arith, pow-pos (v - suc j)) in
     ap (λ (z : ℕ). eqb z 1) (ap (λ (z : ℕ). z % 2) e ∙ o)
 
-pub ones-out : (v j : ℕ) → v ≤ j → inCoalition (2 ^ v - 1) j ≡ false
-unfolding inCoalition
+pub ones-out : (v j : ℕ) → v ≤ j → hasBit (2 ^ v - 1) j ≡ false
+unfolding hasBit
 ones-out v j h =
     let l : 2 ^ v - 1 < 2 ^ j = omega (arith, pow-pos v, pow-mono h) in
     let e : (2 ^ v - 1) / 2 ^ j ≡ 0 = div-eq-of-lt l in
     ap (λ (z : ℕ). eqb (z % 2) 1) e
 
 -- the machine's mask of v places from k on has exactly those
-pub mask-bits : (v k i : ℕ) → inCoalition ((2 ^ v - 1) * 2 ^ k) i ≡ (leb k i && ltb i (k + v))
+pub mask-bits : (v k i : ℕ) → hasBit ((2 ^ v - 1) * 2 ^ k) i ≡ (leb k i && ltb i (k + v))
 mask-bits v k i =
     ⊎-elim
     (λ h. mask-under (2 ^ v - 1) k i h ∙ sym (ap (λ (t : Bool). t && ltb i (k + v)) (lt-leb k i h)))
     (λ h.
     let d : k + (i - k) ≡ i = omega arith in
-    subst (λ (z : ℕ). inCoalition ((2 ^ v - 1) * 2 ^ k) z ≡ (leb k i && ltb i (k + v))) d
+    subst (λ (z : ℕ). hasBit ((2 ^ v - 1) * 2 ^ k) z ≡ (leb k i && ltb i (k + v))) d
     (mask-from (2 ^ v - 1) k (i - k)
     ∙ ⊎-elim
     (λ g. ones-in v (i - k) g ∙ sym (ap₂ _&&_ (le-leb k i h) (lt-ltb i (k + v) (omega arith))))
@@ -209,8 +209,8 @@ mask-below b (suc k) = go (b k) (mask-below b k)
     go false h = omega (arith, pow-suc 2 k)
 
 -- the bits of a number, and one more on top
-low-bit : (n k i : ℕ) → i < k → (t : Bool) → inCoalition (n + cond t (2 ^ k) 0) i ≡ inCoalition n i
-unfolding inCoalition
+low-bit : (n k i : ℕ) → i < k → (t : Bool) → hasBit (n + cond t (2 ^ k) 0) i ≡ hasBit n i
+unfolding hasBit
 low-bit n k i h true =
     let d : k ≡ suc (k - suc i) + i = omega arith in
     let p : 2 ^ k ≡ 2 ^ (k - suc i) * 2 * 2 ^ i = ap (λ (z : ℕ). 2 ^ z) d ∙ pow-add 2 (suc (k - suc i)) i ∙ ap (λ (z : ℕ). z * 2 ^ i) (pow-suc 2 (k - suc i)) in
@@ -218,30 +218,30 @@ low-bit n k i h true =
     = ap (λ (z : ℕ). (n + z) / 2 ^ i) p ∙ add-mul-div-right n (2 ^ (k - suc i) * 2) (pow-pos i) in
     let m : (n / 2 ^ i + 2 ^ (k - suc i) * 2) % 2 ≡ n / 2 ^ i % 2 = omega arith in
     ap (λ (z : ℕ). eqb z 1) (ap (λ (z : ℕ). z % 2) e ∙ m)
-low-bit n k i h false = ap (λ (z : ℕ). inCoalition z i) (add-zero n)
+low-bit n k i h false = ap (λ (z : ℕ). hasBit z i) (add-zero n)
 
-top-bit : (n k : ℕ) → n < 2 ^ k → (t : Bool) → inCoalition (n + cond t (2 ^ k) 0) k ≡ t
-unfolding inCoalition
+top-bit : (n k : ℕ) → n < 2 ^ k → (t : Bool) → hasBit (n + cond t (2 ^ k) 0) k ≡ t
+unfolding hasBit
 top-bit n k h true =
     let e : (n + 2 ^ k) / 2 ^ k ≡ 1
     = ap (λ (z : ℕ). (n + z) / 2 ^ k) (sym (one-mul (2 ^ k))) ∙ add-mul-div-right n 1 (pow-pos k) ∙ ap (λ (z : ℕ). z + 1) (div-eq-of-lt h) in
     ap (λ (z : ℕ). eqb (z % 2) 1) e
 top-bit n k h false = ap (λ (z : ℕ). eqb (z % 2) 1) (ap (λ (z : ℕ). z / 2 ^ k) (add-zero n) ∙ div-eq-of-lt h)
 
-pub bit-above : (n k i : ℕ) → n < 2 ^ k → k ≤ i → inCoalition n i ≡ false
-unfolding inCoalition
+pub bit-above : (n k i : ℕ) → n < 2 ^ k → k ≤ i → hasBit n i ≡ false
+unfolding hasBit
 bit-above n k i h l = ap (λ (z : ℕ). eqb (z % 2) 1) (div-eq-of-lt (lt-of-lt-of-le h (pow-mono l)))
 
-pub mask-has : (b : ℕ → Bool) (k i : ℕ) → inCoalition (maskOf b k) i ≡ (ltb i k && b i)
+pub mask-has : (b : ℕ → Bool) (k i : ℕ) → hasBit (maskOf b k) i ≡ (ltb i k && b i)
 unfolding sumTo
 mask-has b zero i = bit-above 0 0 i (lit< tt) (omega arith) ∙ sym (ap (λ (t : Bool). t && b i) (le-ltb i 0 (omega arith)))
 mask-has b (suc k) i = go (decLt i k) (ℕ-discrete i k) (mask-has b k i)
   where
-    go : Dec (i < k) → Dec (i ≡ k) → inCoalition (maskOf b k) i ≡ (ltb i k && b i) → inCoalition (maskOf b k + cond (b k) (2 ^ k) 0) i ≡ (ltb i (suc k) && b i)
+    go : Dec (i < k) → Dec (i ≡ k) → hasBit (maskOf b k) i ≡ (ltb i k && b i) → hasBit (maskOf b k + cond (b k) (2 ^ k) 0) i ≡ (ltb i (suc k) && b i)
     go (yes h) d ih =
         low-bit (maskOf b k) k i h (b k) ∙ ih ∙ ap (λ (t : Bool). t && b i) (lt-ltb i k h ∙ sym (lt-ltb i (suc k) (omega arith)))
     go (no h) (yes e) ih =
-        ap (λ (x : ℕ). inCoalition (maskOf b k + cond (b k) (2 ^ k) 0) x) e
+        ap (λ (x : ℕ). hasBit (maskOf b k + cond (b k) (2 ^ k) 0) x) e
         ∙ top-bit (maskOf b k) k (mask-below b k) (b k)
         ∙ ap b (sym e)
         ∙ ap (λ (t : Bool). t && b i) (sym (lt-ltb i (suc k) (omega arith)))
@@ -250,8 +250,8 @@ mask-has b (suc k) i = go (decLt i k) (ℕ-discrete i k) (mask-has b k i)
         ∙ ap (λ (t : Bool). t && b i) (sym (le-ltb i (suc k) (omega arith)))
 
 -- the lowest s bits are all set exactly where the remainder is the greatest
-pub all-ones : (n s : ℕ) → eqb (n % 2 ^ s) (2 ^ s - 1) ≡ allTo s (inCoalition n)
-unfolding allTo inCoalition
+pub all-ones : (n s : ℕ) → eqb (n % 2 ^ s) (2 ^ s - 1) ≡ allTo s (hasBit n)
+unfolding allTo hasBit
 all-ones n zero = ap (λ (z : ℕ). eqb z 0) (mod-one n)
 all-ones n (suc s) = step (digit (n / 2 ^ s)) (all-ones n s)
   where
@@ -261,18 +261,18 @@ all-ones n (suc s) = step (digit (n / 2 ^ s)) (all-ones n s)
     small : n % 2 ^ s < 2 ^ s
     small = mod-lt n (pow-pos s)
 
-    step : (n / 2 ^ s % 2 ≡ 0) ⊎ (n / 2 ^ s % 2 ≡ 1) → eqb (n % 2 ^ s) (2 ^ s - 1) ≡ allTo s (inCoalition n)
-        → eqb (n % 2 ^ suc s) (2 ^ suc s - 1) ≡ (allTo s (inCoalition n) && eqb (n / 2 ^ s % 2) 1)
+    step : (n / 2 ^ s % 2 ≡ 0) ⊎ (n / 2 ^ s % 2 ≡ 1) → eqb (n % 2 ^ s) (2 ^ s - 1) ≡ allTo s (hasBit n)
+        → eqb (n % 2 ^ suc s) (2 ^ suc s - 1) ≡ (allTo s (hasBit n) && eqb (n / 2 ^ s % 2) 1)
     step (inl e) ih =
         ne-eqb (n % 2 ^ suc s) (2 ^ suc s - 1) (λ f. absurd (omega (arith, split, small, ap (λ (z : ℕ). z * 2 ^ s) e, pow-suc 2 s, f)))
-        ∙ sym (ap (λ (z : ℕ). allTo s (inCoalition n) && eqb z 1) e ∙ and-false (allTo s (inCoalition n)))
+        ∙ sym (ap (λ (z : ℕ). allTo s (hasBit n) && eqb z 1) e ∙ and-false (allTo s (hasBit n)))
     step (inr e) ih = go (ℕ-discrete (n % 2 ^ s) (2 ^ s - 1)) ih
       where
         up : n % 2 ^ suc s ≡ 2 ^ s + n % 2 ^ s
         up = split ∙ omega (arith, ap (λ (z : ℕ). z * 2 ^ s) e)
 
-        go : Dec (n % 2 ^ s ≡ 2 ^ s - 1) → eqb (n % 2 ^ s) (2 ^ s - 1) ≡ allTo s (inCoalition n)
-            → eqb (n % 2 ^ suc s) (2 ^ suc s - 1) ≡ (allTo s (inCoalition n) && eqb (n / 2 ^ s % 2) 1)
+        go : Dec (n % 2 ^ s ≡ 2 ^ s - 1) → eqb (n % 2 ^ s) (2 ^ s - 1) ≡ allTo s (hasBit n)
+            → eqb (n % 2 ^ suc s) (2 ^ suc s - 1) ≡ (allTo s (hasBit n) && eqb (n / 2 ^ s % 2) 1)
         go (yes f) ih =
             eq-eqb (n % 2 ^ suc s) (2 ^ suc s - 1) (omega (arith, up, f, pow-suc 2 s, pow-pos s))
             ∙ sym (ap₂ (λ (t : Bool) (z : ℕ). t && eqb z 1) (sym ih ∙ eq-eqb (n % 2 ^ s) (2 ^ s - 1) f) e)

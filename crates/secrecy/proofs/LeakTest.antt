@@ -62,8 +62,8 @@ module _ (P : Pool) where
   agree-iff g zero L W W′ = (
     (λ t.
         let (a, b) = T-and (membersAgree P g L W W′) (totalsAgree P L W W′) t in
-        record { members = members-iff g L W W′ .0 a; totals = totals-iff g L W W′ .0 b }),
-    (λ a. and-T (membersAgree P g L W W′) (totalsAgree P L W W′) (members-iff g L W W′ .1 (a .members)) (totals-iff g L W W′ .1 (a .totals))),
+        record { coalition = record { members = members-iff g L W W′ .0 a }; totals = totals-iff g L W W′ .0 b }),
+    (λ a. and-T (membersAgree P g L W W′) (totalsAgree P L W W′) (members-iff g L W W′ .1 (a .coalition .members)) (totals-iff g L W W′ .1 (a .totals))),
   )
   agree-iff g (suc u) L W W′ = ((λ t. record { members = members-iff g L W W′ .0 t }), λ a. members-iff g L W W′ .1 (a .members))
 

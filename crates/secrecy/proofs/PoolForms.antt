@@ -192,10 +192,10 @@ module _ (P : Pool) where
   server-forms g =
       record {
         views = λ L W N v. sym (seen-view L W N g (P .clusters) (λ _. true) sumForm (relaySum P L W N) v (sum-value L W N));
-        rows = λ L W W′ a p l. (dot-total L W p ∙ a .totals p l ∙ sym (dot-total L W′ p), members-rows g L W W′ (a .members) p l);
+        rows = λ L W W′ a p l. (dot-total L W p ∙ a .totals p l ∙ sym (dot-total L W′ p), members-rows g L W W′ (a .coalition .members) p l);
         agreed = λ L W W′ v v′ a.
             record {
-              members = rows-members g L W W′ v v′ (λ p l. a p l .1);
+              coalition = record { members = rows-members g L W W′ v v′ (λ p l. a p l .1) };
               totals = λ p l. sym (dot-total L W p) ∙ a p l .0 ∙ dot-total L W′ p;
             };
       }

@@ -68,11 +68,12 @@ pub record Leak (q n : ℕ) (readings : ℕ → List ℕ → Type 0) (agrees : �
   pub unequal : number q n see L W s ≢ number q n see L W′ s
 
 module _ (P : Pool) where
+  -- two sets of readings agree on the coalition's members; and, for the server, on the totals
   pub record Agree (g L : ℕ) (W W′ : List ℕ) : Type 0 where
     pub members : (i p : ℕ) → i < users P → T (inCoalition g i) → p < L → reading L W i p ≡ reading L W′ i p
 
   pub record ServerAgree (g L : ℕ) (W W′ : List ℕ) : Type 0 where
-    pub members : (i p : ℕ) → i < users P → T (inCoalition g i) → p < L → reading L W i p ≡ reading L W′ i p
+    pub coalition : Agree g L W W′
     pub totals : (p : ℕ) → p < L → total P L W p ≡ total P L W′ p
 
   abbrev pub Agrees : ℕ → ℕ → ℕ → List ℕ → List ℕ → Type 0

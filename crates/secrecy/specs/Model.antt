@@ -1,11 +1,12 @@
 -- The equations of source document 000, and what each observer sees. Users, clusters and positions count from 0; an observer is document 01's
 -- number: 0 for the server (document 01: desk), u for relay u (gateway). Readings of L positions stand user by user, L symbols each; a source key
 -- (key block) stands position by position, `rate` symbols each.
-use Prim.Native.Nat.{ℕ, zero, suc, _+_, _*_, _/_, _%_, _^_, _<_}
+use Prim.Native.Nat.{ℕ, zero, suc, _+_, _*_, _/_, _%_, _<_}
 use mathlib.Core.Path.{_≡_}
 use mathlib.Core.Bool.{Bool}
 use mathlib.Core.List.{List, _++_}
 use lib.Dec.{eqb}
+use Rattle.arithmetic.specs.Bits.{hasBit}
 use Rattle.matrices.specs.Linear.{at}
 use Rattle.secrecy.specs.Lists.{tab, joinTo, picked}
 use Rattle.secrecy.specs.Counts.{sumTo}
@@ -19,8 +20,8 @@ pub record Pool : Type 0 where
   pub table : List ℕ
 
 -- is user i in the coalition (gang)? Its bit in the coalition's number
-unfoldable pub inCoalition : ℕ → ℕ → Bool
-inCoalition g i = eqb (g / 2 ^ i % 2) 1
+abbrev pub inCoalition : ℕ → ℕ → Bool
+inCoalition g i = hasBit g i
 
 -- the reading of user i in position p
 unfoldable pub reading : ℕ → List ℕ → ℕ → ℕ → ℕ

@@ -9,6 +9,7 @@ use native.Mathlib.Omega.{arith}
 use lib.Dec.{eqb}
 use lib.Pow.{shr-shr}
 use lib.Count.{trailingZeros}
+use Rattle.arithmetic.specs.Bits.{hasBit}
 use Rattle.secrecy.specs.Model.{inCoalition}
 use Rattle.secrecy.proofs.BitLaws.{digit, half-bound}
 use Rattle.vetting.specs.Walking.{membersFrom}
@@ -19,7 +20,7 @@ halved zero i n = []
 halved (suc k) i n = cond (eqb (n % 2) 1) (i ∷ halved k (i + 1) (n / 2)) (halved k (i + 1) (n / 2))
 
 halves : (k i g : ℕ) → halved k i (g / 2 ^ i) ≡ membersFrom k i g
-unfolding halved membersFrom inCoalition
+unfolding halved membersFrom hasBit
 halves zero i g = refl
 halves (suc k) i g = ap (λ (l : List ℕ). cond (inCoalition g i) (i ∷ l) l) (ap (halved k (i + 1)) (shr-shr g i 1) ∙ halves k (i + 1) g)
 
@@ -60,6 +61,6 @@ members-next k n p h =
 
 -- nobody is left
 pub members-none : (k i : ℕ) → membersFrom k i 0 ≡ []
-unfolding membersFrom inCoalition
+unfolding membersFrom hasBit
 members-none zero i = refl
 members-none (suc k) i = rw (zero-div (2 ^ i)) (members-none k (i + 1))

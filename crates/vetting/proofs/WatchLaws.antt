@@ -13,6 +13,7 @@ use lib.Pow.{pow-add}
 use borrow.Author.Tests.{eq-eqb, ne-eqb, lt-ltb, le-ltb, le-leb, lt-leb}
 use Rattle.arithmetic.specs.Search.{anyTo, allTo}
 use Rattle.arithmetic.proofs.Searches.{T-and, any-found, not-T→false}
+use Rattle.arithmetic.specs.Bits.{hasBit}
 use Rattle.secrecy.specs.Lists.{picked}
 use Rattle.secrecy.specs.Model.{Pool, users, inCoalition, inCluster}
 use Rattle.secrecy.proofs.RankCondition.{outside, opened, tested}
@@ -24,7 +25,7 @@ use Rattle.vetting.proofs.PickedLaws.{picked-cong, picked-nothing, pick
 
 -- the bits of a shifted number
 shifted-bit : (g a v : ℕ) → inCoalition (g / 2 ^ a) v ≡ inCoalition g (a + v)
-unfolding inCoalition
+unfolding hasBit
 shifted-bit g a v =
     ap (λ (z : ℕ). eqb (z % 2) 1) (div-div-eq-div-mul g (2 ^ a) (2 ^ v) ∙ ap (λ (z : ℕ). g / z) (sym (pow-add 2 a v)))
 
