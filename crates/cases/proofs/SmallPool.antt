@@ -11,10 +11,10 @@ use Rattle.arithmetic.specs.Field.{powerOf, inverseBelow, inverseOf}
 use Rattle.matrices.specs.Tables.{pivotOf, scaled, fused, cleared, eachRow, eliminatedFrom, pivotsFrom}
 use Rattle.secrecy.specs.Lists.{tab, joinTo, picked}
 use Rattle.secrecy.specs.Counts.{sumTo, howMany}
-use Rattle.secrecy.specs.Model.{reading, key, upload, relaySum, total}
+use Rattle.secrecy.specs.Model.{reading, key, upload, relaySum, total, columnSum}
 use Rattle.plans.specs.Plans.{plan, poolOf, planChecks}
 use Rattle.vetting.specs.Walk.{pairs, observers}
-use Rattle.vetting.specs.Verdict.{columnSum, verdict}
+use Rattle.vetting.specs.Verdict.{verdict}
 use Rattle.vetting.specs.Walking.{clusterSum, baseTable, membersFrom, reducedBy, dependent, openMask, testedMask, firstHit}
 use Rattle.keys.specs.Maker.{rateOf, entry, lastEntry, madeTable, makerChecks}
 use Rattle.keys.specs.Keys.{keysOf}

@@ -11,6 +11,7 @@ use lib.Dec.{leb, ltb, eqb}
 use lib.ListN.{length, take, drop, length-append, List·getD-append}
 use lib.Seq.{getD-append-add}
 use borrow.Author.Tests.{lt-ltb, le-ltb, le-leb, eq-eqb, ne-eqb, leb-false, not-false}
+use Rattle.secrecy.specs.Model.{columnSum, ZeroSum}
 use Rattle.refusals.specs.declared.Code.{Code}
 use Rattle.refusals.specs.Codes.{code, accepted, firstOf}
 use Rattle.refusals.proofs.CodeLaws.{NoneHolds, none-holds}
@@ -27,9 +28,9 @@ use Rattle.secrecy.specs.Lists.{tab}
 use Rattle.secrecy.proofs.Sums.{sum-cong}
 use Rattle.secrecy.proofs.ListLaws.{at-tab, length-tab, tab-cong, tab-at}
 use Rattle.plans.specs.declared.Plan.{Plan}
-use Rattle.plans.specs.Plans.{usersOf, countsFit, inBounds}
+use Rattle.plans.specs.Plans.{poolOf, usersOf, countsFit, inBounds}
 use Rattle.vetting.specs.Walk.{pairs}
-use Rattle.vetting.specs.Verdict.{columnSum, columnCheck, leakCheck, otherChecks, vetChecks, verdict}
+use Rattle.vetting.specs.Verdict.{columnCheck, leakCheck, otherChecks, vetChecks, verdict}
 use Rattle.keys.specs.Maker.{rateOf, planOf, entry, lastEntry, madeTable, makerChecks}
 use Rattle.refusals.proofs.Orders.{none-decide, first-accepts}
 use Rattle.plans.proofs.PlanBounds.{Counts, counts-known, some-users, Bounds, bounds-known}
@@ -191,7 +192,7 @@ module _ (P : Plan) (γ : ℕ) (b : Bounds P) (p : Prime (P .q)) (e : P .rate �
       ∙ T→true (allBelow (P .q) (tab n f))
       (at-below (P .q) (tab n f) (λ i l. subst (λ (z : ℕ). z < P .q) (sym (at-tab n f i (omega (arith, length-tab n f)))) (cell-below (P .q) γ (usersOf P) (P .rate) i (p .two))))
 
-  pub made-zero-sum : (k : ℕ) → k < P .rate → columnSum P tableOf k ≡ 0
+  pub made-zero-sum : ZeroSum (poolOf P tableOf)
   unfolding columnSum
   made-zero-sum k h =
       ap (λ (K : List ℕ). sumTo (usersOf P) (λ i. at K (i * P .rate + k)) % P .q) (sym made-is)
@@ -208,7 +209,7 @@ module _ (P : Plan) (γ : ℕ) (b : Bounds P) (p : Prime (P .q)) (e : P .rate �
             ap not (prime-true (P .q) p),
             (
               ap not made-below,
-              none-tab (columnCheck P tableOf) (P .rate) (λ k. k) (λ k l. ap not (eq-eqb (columnSum P tableOf k) 0 (made-zero-sum k l))),
+              none-tab (columnCheck P tableOf) (P .rate) (λ k. k) (λ k l. ap not (eq-eqb (columnSum (poolOf P tableOf) k) 0 (made-zero-sum k l))),
             ),
           ),
         ),

@@ -16,7 +16,7 @@ use Rattle.matrices.specs.Linear.{at}
 use Rattle.matrices.proofs.Notions.{dotN}
 use Rattle.matrices.proofs.Vectors.{dot-reduce}
 use Rattle.secrecy.specs.Counts.{sumTo}
-use Rattle.secrecy.specs.Model.{Pool, users, inCoalition, ZeroSum}
+use Rattle.secrecy.specs.Model.{Pool, users, inCoalition, ZeroSum, columnSum}
 use Rattle.secrecy.proofs.Sums.{sum-cong, sum-zero}
 use Rattle.secrecy.proofs.ListLaws.{at-tab, length-tab}
 use Rattle.secrecy.proofs.Units.{unit, addTo, dot-addTo, dot-units-one, dot-units-none, el-addTo, dot-null}
@@ -42,6 +42,7 @@ module _ (P : Pool) where
 
   -- the rows of a table that sums to 0 have in all the product 0
   pub rows-none : ZeroSum P → (N : List ℕ) → Cong (P .q) (sumTo (users P) (λ i. dotN (row P i) N)) 0
+  unfolding columnSum
   rows-none zs N =
       c-trans (of-eq (sym (dot-addTo (P .rate) (users P) (row P) N)))
       (dot-null (addTo (P .rate) (users P) (row P)) N

@@ -35,9 +35,12 @@ module _ (P : Pool) where
   unfoldable pub inCluster : ℕ → ℕ → Bool
   inCluster u i = eqb (i / P .size) u
 
-  -- the rows of the key table sum to zero, column by column
+  -- the sum of column k of the key table; in a zero-sum table it is 0 for each column
+  unfoldable pub columnSum : ℕ → ℕ
+  columnSum k = sumTo users (λ i. at (P .table) (i * P .rate + k)) % P .q
+
   abbrev pub ZeroSum : Type 0
-  ZeroSum = (k : ℕ) → k < P .rate → sumTo users (λ i. at (P .table) (i * P .rate + k)) % P .q ≡ 0
+  ZeroSum = (k : ℕ) → k < P .rate → columnSum k ≡ 0
 
   -- ---- what is sent
 

@@ -26,7 +26,7 @@ use Rattle.vetting.specs.declared.Pair.{Pair}
 use Rattle.vetting.specs.declared.Found.the-variants.{At}
 use Rattle.plans.specs.Plans.{poolOf, usersOf, inBounds}
 use Rattle.vetting.specs.Walk.{pairs, InWalk}
-use Rattle.vetting.specs.Verdict.{columnSum, leakCheck}
+use Rattle.vetting.specs.Verdict.{leakCheck}
 use Rattle.vetting.specs.Walking.{baseTable, rowsIn, watchMask, hit, firstHit, walked, foundCode}
 use Rattle.secrecy.proofs.BitLaws.{bit-above}
 use Rattle.plans.proofs.PlanBounds.{Bounds, bounds-known}
@@ -101,18 +101,14 @@ module _ (P : Plan) (K : List ℕ) (bounds : Bounds P) (symbols : length K ≡ u
         (λ n. test .0 t (subst (λ X. X) (sym same) (quiet .0 (λ k. n (search .1 k))))))
         (λ t. test .1 (λ i. quiet .1 (subst (λ X. X) same i) (search .0 t)))
 
-zero-sum : (P : Plan) (K : List ℕ) → ((k : ℕ) → k < P .rate → columnSum P K k ≡ 0) → ZeroSum (poolOf P K)
-unfolding columnSum
-zero-sum P K z = z
-
 module _ (P : Plan) (K : List ℕ) (bounds : inBounds P ≡ true) (sized : length K ≡ usersOf P * P .rate) (prime : Prime (P .q)) (below : allBelow (P .q) K ≡ true)
-    (columns : (k : ℕ) → k < P .rate → columnSum P K k ≡ 0) where
+    (columns : ZeroSum (poolOf P K)) where
   -- the test on one pair decides whether it leaks
   pub pair-verdict : (g w : ℕ) → g < 2 ^ usersOf P → w ≤ P .clusters → hit P (baseTable P K) g w ≡ leaks (poolOf P K) g w
   pair-verdict g w low h =
       let valid : Vector (P .q) (usersOf P * P .rate) K
       = record { size = sized; small = λ i k. below-at (P .q) K (prime-pos prime) (true→T (allBelow (P .q) K) below) i } in
-      decides P K (bounds-known P bounds) sized prime valid (zero-sum P K columns) g low w h
+      decides P K (bounds-known P bounds) sized prime valid columns g low w h
 
   pub found-verdict : foundCode (walked P (baseTable P K)) ≡ firstOf (map (leakCheck P K) (pairs (P .clusters) (P .size) (P .limit)))
   found-verdict =

@@ -21,7 +21,7 @@ use Rattle.plans.specs.declared.Plan.{Plan}
 use Rattle.vetting.specs.declared.Pair.{Pair}
 use Rattle.plans.specs.Plans.{poolOf, usersOf}
 use Rattle.vetting.specs.Walk.{pairs, InWalk, First}
-use Rattle.vetting.specs.Verdict.{columnSum, leakCheck, otherChecks, verdict, columnChecks}
+use Rattle.vetting.specs.Verdict.{leakCheck, otherChecks, verdict, columnChecks}
 use Rattle.refusals.proofs.Orders.{rest-decides, first-accepts}
 use Rattle.plans.proofs.TableLaws.{table-passed}
 use Rattle.vetting.proofs.VerdictLaws.{columns-numbered, columns-passed}
@@ -38,7 +38,6 @@ other-numbered : (P : Plan) (K : List ℕ) → T (numbered (otherChecks P K))
 other-numbered P K = columns-numbered P K (P .rate) (λ k. k)
 
 pub checked : (P : Plan) (K : List ℕ) → accepted ≡ firstOf (otherChecks P K) → Checked P K
-unfolding columnSum
 checked P K e =
     let p = table-passed P K (columnChecks P K) (other-numbered P K) e in
     record {

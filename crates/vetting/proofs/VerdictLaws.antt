@@ -8,6 +8,7 @@ use native.Mathlib.Decide.{decLt}
 use native.Mathlib.Omega.{arith}
 use lib.Dec.{T, eqb}
 use borrow.Author.Tests.{not-false, eqb-true, eq-eqb, ne-eqb}
+use Rattle.secrecy.specs.Model.{columnSum, ZeroSum}
 use Rattle.refusals.specs.Codes.{accepted, firstOf}
 use Rattle.refusals.proofs.CodeLaws.{numbered, NoneHolds, none-holds}
 use Rattle.secrecy.specs.Lists.{tab}
@@ -16,7 +17,7 @@ use Rattle.plans.specs.declared.Plan.{Plan}
 use Rattle.plans.specs.Plans.{poolOf, usersOf}
 use Rattle.plans.proofs.TableLaws.{Passed, table-passed}
 use Rattle.vetting.specs.Walk.{pairs}
-use Rattle.vetting.specs.Verdict.{columnSum, columnCheck, leakCheck, otherChecks, verdict, columnChecks}
+use Rattle.vetting.specs.Verdict.{columnCheck, leakCheck, otherChecks, verdict, columnChecks}
 use Rattle.vetting.specs.Walking.{baseTable, hit, walked, foundCode}
 use Rattle.refusals.proofs.Orders.{rest-decides}
 use Rattle.vetting.proofs.Deciding.{pair-verdict, found-verdict}
@@ -29,37 +30,37 @@ module _ (P : Plan) (K : List ℕ) where
   columns-numbered zero f = tt
   columns-numbered (suc n) f = columns-numbered n (λ k. f (suc k))
 
-  pub columns-zero : (n : ℕ) (f : ℕ → ℕ) → ((k : ℕ) → k < n → columnSum P K (f k) ≡ 0) → accepted ≡ firstOf (map (columnCheck P K) (tab n f))
+  pub columns-zero : (n : ℕ) (f : ℕ → ℕ) → ((k : ℕ) → k < n → columnSum (poolOf P K) (f k) ≡ 0) → accepted ≡ firstOf (map (columnCheck P K) (tab n f))
   unfolding tab
   columns-zero zero f z = refl
   columns-zero (suc n) f z =
-      rw (eq-eqb (columnSum P K (f 0)) 0 (z 0 (zero-lt-suc n))) (columns-zero n (λ k. f (suc k)) (λ k l. z (suc k) (suc-le-suc l)))
+      rw (eq-eqb (columnSum (poolOf P K) (f 0)) 0 (z 0 (zero-lt-suc n))) (columns-zero n (λ k. f (suc k)) (λ k l. z (suc k) (suc-le-suc l)))
 
-  zero-columns : (n : ℕ) (f : ℕ → ℕ) → NoneHolds (map (columnCheck P K) (tab n f)) → (k : ℕ) → k < n → columnSum P K (f k) ≡ 0
+  zero-columns : (n : ℕ) (f : ℕ → ℕ) → NoneHolds (map (columnCheck P K) (tab n f)) → (k : ℕ) → k < n → columnSum (poolOf P K) (f k) ≡ 0
   unfolding tab
   zero-columns zero f w k h = absurd (not-suc-le-zero h)
-  zero-columns (suc n) f w zero h = eqb-true (columnSum P K (f 0)) 0 (not-false (eqb (columnSum P K (f 0)) 0) (w .0))
+  zero-columns (suc n) f w zero h = eqb-true (columnSum (poolOf P K) (f 0)) 0 (not-false (eqb (columnSum (poolOf P K) (f 0)) 0) (w .0))
   zero-columns (suc n) f w (suc k) h = zero-columns n (λ i. f (suc i)) (w .1) k (le-of-suc-le-suc h)
 
-  pub columns-passed : accepted ≡ firstOf (otherChecks P K) → (k : ℕ) → k < P .rate → columnSum P K k ≡ 0
+  pub columns-passed : accepted ≡ firstOf (otherChecks P K) → ZeroSum (poolOf P K)
   columns-passed e = zero-columns (P .rate) (λ k. k) (none-holds (otherChecks P K) (columns-numbered (P .rate) (λ k. k)) e .1 .1 .1 .1)
 
-  pub column-first : (n : ℕ) (f : ℕ → ℕ) (k : ℕ) → k < n → ((j : ℕ) → j < k → columnSum P K (f j) ≡ 0) → columnSum P K (f k) ≢ 0
+  pub column-first : (n : ℕ) (f : ℕ → ℕ) (k : ℕ) → k < n → ((j : ℕ) → j < k → columnSum (poolOf P K) (f j) ≡ 0) → columnSum (poolOf P K) (f k) ≢ 0
       → record { number = 6; first = f k + 1; second = 0 } ≡ firstOf (map (columnCheck P K) (tab n f))
   unfolding tab
   column-first zero f k h z x = absurd (not-suc-le-zero h)
-  column-first (suc n) f zero h z x = rw (ne-eqb (columnSum P K (f 0)) 0 x)
+  column-first (suc n) f zero h z x = rw (ne-eqb (columnSum (poolOf P K) (f 0)) 0 x)
   column-first (suc n) f (suc k) h z x =
-      rw (eq-eqb (columnSum P K (f 0)) 0 (z 0 (zero-lt-suc k)))
+      rw (eq-eqb (columnSum (poolOf P K) (f 0)) 0 (z 0 (zero-lt-suc k)))
       (column-first n (λ i. f (suc i)) k (le-of-suc-le-suc h) (λ j l. z (suc j) (suc-le-suc l)) x)
 
   -- one column more sums to zero
-  pub zeros-next : (k : ℕ) → ((j : ℕ) → j < k → columnSum P K j ≡ 0) → columnSum P K k ≡ 0 → (j : ℕ) → j < k + 1 → columnSum P K j ≡ 0
+  pub zeros-next : (k : ℕ) → ((j : ℕ) → j < k → columnSum (poolOf P K) j ≡ 0) → columnSum (poolOf P K) k ≡ 0 → (j : ℕ) → j < k + 1 → columnSum (poolOf P K) j ≡ 0
   zeros-next k z e j h = go (decLt j k)
     where
-      go : Dec (j < k) → columnSum P K j ≡ 0
+      go : Dec (j < k) → columnSum (poolOf P K) j ≡ 0
       go (yes l) = z j l
-      go (no n) = let same : j ≡ k = omega arith in ap (columnSum P K) same ∙ e
+      go (no n) = let same : j ≡ k = omega arith in ap (columnSum (poolOf P K)) same ∙ e
 
   -- a table that passed every other check
   module _ (e : accepted ≡ firstOf (otherChecks P K)) where

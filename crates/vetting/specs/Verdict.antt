@@ -1,26 +1,21 @@
 -- The verdict on a plan and its key table. Document 01, "Order": "The vet: 1, 4, 2, 3, 6, 7."
-use Prim.Native.Nat.{ℕ, _+_, _*_, _%_}
+use Prim.Native.Nat.{ℕ, _+_}
 use mathlib.Core.Bool.{Bool, not}
 use mathlib.Core.List.{List, _++_, map}
 use lib.Dec.{eqb}
 use Rattle.refusals.specs.declared.Code.{Code}
 use Rattle.refusals.specs.Codes.{firstOf}
-use Rattle.matrices.specs.Linear.{at}
 use Rattle.secrecy.specs.Lists.{tab}
-use Rattle.secrecy.specs.Counts.{sumTo}
+use Rattle.secrecy.specs.Model.{columnSum}
 use Rattle.secrecy.specs.Leaks.{leaks}
 use Rattle.plans.specs.declared.Plan.{Plan}
 use Rattle.vetting.specs.declared.Pair.{Pair}
-use Rattle.plans.specs.Plans.{poolOf, usersOf, tableChecks}
+use Rattle.plans.specs.Plans.{poolOf, tableChecks}
 use Rattle.vetting.specs.Walk.{pairs}
-
--- the sum of column k of the key table
-unfoldable pub columnSum : Plan → List ℕ → ℕ → ℕ
-columnSum P K k = sumTo (usersOf P) (λ i. at K (i * P .rate + k)) % P .q
 
 -- 6 names the first column whose sum is not zero, from 1
 abbrev pub columnCheck : Plan → List ℕ → ℕ → Bool × Code
-columnCheck P K k = (not (eqb (columnSum P K k) 0), record { number = 6; first = k + 1; second = 0 })
+columnCheck P K k = (not (eqb (columnSum (poolOf P K) k) 0), record { number = 6; first = k + 1; second = 0 })
 
 abbrev pub columnChecks : Plan → List ℕ → List (Bool × Code)
 columnChecks P K = map (columnCheck P K) (tab (P .rate) (λ k. k))

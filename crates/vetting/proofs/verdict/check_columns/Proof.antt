@@ -2,14 +2,15 @@
 use mathlib.Core.Path.{_≡_, sym, _∙_}
 use Prim.Native.Nat.{ℕ, _-_, _≤_, _<_}
 use native.Mathlib.Omega.{arith}
-use Rattle.vetting.specs.Verdict.{columnSum}
+use Rattle.plans.specs.Plans.{poolOf}
+use Rattle.secrecy.specs.Model.{columnSum}
 use Rattle.plans.proofs.PlanBounds.{bounds-known}
 use Rattle.vetting.proofs.VerdictLaws.{columns-zero, column-first, zeros-next}
 use Rattle.vetting.proofs.verdict.check_columns.Statement.{statement}
 use Rattle.vetting.proofs.verdict.check_columns.Tie as tie
 
 abbrev Inv-loop : tie.InvT-loop
-Inv-loop plan table rate users k₀ k = (k ≤ rate) × ((j : ℕ) → j < k → columnSum plan table j ≡ 0)
+Inv-loop plan table rate users k₀ k = (k ≤ rate) × ((j : ℕ) → j < k → columnSum (poolOf plan table) j ≡ 0)
 
 abbrev μ-loop : tie.MeasureT-loop
 μ-loop plan table rate users k₀ k = rate - k
