@@ -1,2 +1,3 @@
 pub mod FullRank
 pub mod SmallPool
+pub mod SmallDemands

@@ -25,7 +25,7 @@ use Rattle.arithmetic.specs.Bits.{hasBit}
 use Rattle.rounds.specs.Rounds.{opened, runOf}
 
 -- the pool's rows, its source symbols and its readings
-abbrev rows : List ℕ
+abbrev pub rows : List ℕ
 rows = 1 ∷ 0 ∷ 0 ∷ 1 ∷ 2 ∷ 4 ∷ 1 ∷ 4 ∷ 1 ∷ 2 ∷ 4 ∷ 0 ∷ []
 
 abbrev N : List ℕ
