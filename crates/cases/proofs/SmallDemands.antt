@@ -1,19 +1,27 @@
--- Demand 3 at the small pool: it hides what it has to hide; with coalitions of two it leaks, and the leak is there to be seen.
-use Prim.Native.Nat.{ℕ, _≤_}
+-- The demands at the small pool. Demand 3: it hides what it has to hide; with coalitions of two it leaks, and the leak is there to be seen. Demand 2: what its
+-- relays and its server are asked to hear can be heard, so that the total is shown.
+use Prim.Native.Nat.{ℕ, zero, suc, _≤_, _<_}
+use native.Mathlib.Omega.{arith}
 use mathlib.Core.Path.{_≡_, refl, sym}
-use mathlib.Core.List.{List}
+use mathlib.Core.Bool.{true}
+use mathlib.Core.List.{List, [], _∷_}
+use lib.ListN.{length}
 use Rattle.refusals.specs.Codes.{accepted, firstOf}
 use Rattle.arithmetic.specs.Search.{allTo}
 use Rattle.arithmetic.specs.Primes.{isPrime, allBelow}
 use Rattle.secrecy.specs.Lists.{tab}
 use Rattle.secrecy.specs.Counts.{sumTo}
-use Rattle.secrecy.specs.Model.{columnSum, view}
+use Rattle.arithmetic.specs.Bits.{hasBit}
+use Rattle.secrecy.specs.Model.{columnSum, view, reading, key, upload, total}
 use Rattle.secrecy.specs.Leaks.{number, Symbols, Agrees, PairLeak}
 use Rattle.plans.specs.Plans.{plan, poolOf}
 use Rattle.vetting.specs.Walk.{InWalk}
 use Rattle.vetting.specs.Verdict.{otherChecks}
-use Rattle.demands.proofs.Demands.{equal-numbers, names-first}
-use Rattle.cases.proofs.SmallPool.{rows, accepts, leaks-to-two}
+use Rattle.rounds.specs.Ledger.{Frame, frame, named, bitsOf, countedAt}
+use Rattle.rounds.specs.Rounds.{opened, sumsAfter, runOf, ledgerOf}
+use Rattle.demands.specs.Demands.{Heard, AllHeard}
+use Rattle.demands.proofs.Demands.{zero-sum, total-is-sum, equal-numbers, names-first}
+use Rattle.cases.proofs.SmallPool.{rows, N, W, accepts, leaks-to-two}
 
 -- any coalition of at most one user, any observer, any readings that may not be told apart, any view
 pub hides : (g w : ℕ) → InWalk (plan 2 2 1 3 5) g w → (L : ℕ) → 1 ≤ L → L ≤ 64
@@ -29,3 +37,32 @@ passes = refl
 -- users 1 and 2 (coalition 3) with relay 2: two sets of readings and a view with unequal numbers
 pub leak : PairLeak (poolOf (plan 2 2 2 3 5) rows) 3 2
 leak = names-first (plan 2 2 2 3 5) rows passes (record { coalition = 3; observer = 2 }) .0 leaks-to-two .here
+
+-- ---- demand 2: round 9, the users' uploads 4, 1 and 2, 2, the relays' sums 0 and 4, each time the second sender first
+
+heard : ℕ → List Frame
+heard zero = frame 2 9 (1 ∷ []) ∷ frame 1 9 (4 ∷ []) ∷ []
+heard (suc u) = frame 2 9 (2 ∷ []) ∷ frame 1 9 (2 ∷ []) ∷ []
+
+abbrev sums : List Frame
+sums = frame 2 9 (4 ∷ []) ∷ frame 1 9 (0 ∷ []) ∷ []
+
+all-heard : AllHeard (plan 2 2 1 3 5) rows 1 W N 9 heard sums
+unfolding heard tab runOf isPrime allTo allBelow hasBit named bitsOf countedAt ledgerOf upload reading key sumTo
+all-heard =
+    record {
+      relays = each;
+      carried = ((λ _. refl), ((λ _. refl), tt));
+      full = refl;
+    }
+  where
+    each : (u : ℕ) → u < 2 → Heard (plan 2 2 1 3 5) rows 1 W N 9 u (heard u)
+    each zero l = record { carried = ((λ _. refl), ((λ _. refl), tt)); full = refl }
+    each (suc zero) l = record { carried = ((λ _. refl), ((λ _. refl), tt)); full = refl }
+    each (suc (suc u)) l = absurd (omega arith)
+
+-- "total 4": what the server writes into a lent buffer of one symbol
+pub shown : (out : List ℕ) → length out ≡ 1
+    → sumsAfter 2 true (runOf 2 true (opened 2 2 5 1 9) sums) out ≡ 4 ∷ []
+unfolding isPrime allTo tab total reading sumTo
+shown out room = total-is-sum (plan 2 2 1 3 5) rows 1 W N 9 (zero-sum (plan 2 2 1 3 5) rows (sym accepts)) refl heard sums all-heard out room .1

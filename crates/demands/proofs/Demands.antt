@@ -7,12 +7,13 @@ use Rattle.vetting.proofs.ExactSecrecy.{accepted-equal-numbers, refused-iff-lea
 use Rattle.masking.proofs.BlockLaws.{unmask-upload}
 use Rattle.rounds.specs.Rounds.{oneOf}
 use Rattle.rounds.proofs.LedgerLaws.{ledger-run}
-use Rattle.rounds.proofs.Totals.{relay-sums, readings-to-total}
+use Rattle.rounds.proofs.Runs.{relay-run, relay-answers, server-run, server-answers}
+use Rattle.rounds.proofs.Totals.{relay-sums, server-sums, readings-to-total}
 use Rattle.records.proofs.RecordChecks.{writable}
 use Rattle.records.proofs.RecordLaws.{write-read, written-accepted, one-record}
 use Rattle.streams.proofs.StreamLaws.{draws-give, draws-placed, draws-disjoint}
-use Rattle.demands.specs.Demands.{KeysAre, UploadsAre, RelaySumsAre, TotalIsSum, AcceptedIsZeroSum, Unmasks, EqualNumbers, RefusedIfLeaks, NamesFirst}
-use Rattle.demands.specs.Demands.{AnswersAsLedger, WrittenIsRead, OneRecord, DrawnOnce}
+use Rattle.demands.specs.Demands.{KeysAre, UploadsAre, RelaySumsAre, TotalIs, TotalIsSum, AcceptedIsZeroSum, Unmasks, EqualNumbers, RefusedIfLeaks, NamesFirst}
+use Rattle.demands.specs.Demands.{CallsAreRuns, AnswersAsLedger, WrittenIsRead, OneRecord, DrawnOnce}
 use Rattle.demands.proofs.Equations.{keys-are, sent-is, accepted-zero-sum}
 
 -- ---- demand 2
@@ -25,10 +26,15 @@ module _ (P : Plan) (K : List ℕ) (L : ℕ) (W N : List ℕ) where
   uploads h = sent-is P K h L W N
 
   pub relays : (round : ℕ) → RelaySumsAre P K L W N round
-  relays round u frames opens = relay-sums (poolOf P K) L W N round (oneOf (P .clusters) (suc u)) opens u frames
+  relays round u frames opens h = relay-sums (poolOf P K) L W N round (oneOf (P .clusters) (suc u)) opens u frames (h .carried) (h .full)
 
-  pub total : (round : ℕ) → TotalIsSum P K L W N round
-  total round = readings-to-total (poolOf P K) L W N round
+  pub total : (round : ℕ) → TotalIs P K L W N round
+  total round opens heard frames h =
+      server-sums (poolOf P K) L W N round opens heard (λ u l. h .relays u l .carried) (λ u l. h .relays u l .full) frames (h .carried) (h .full)
+
+  pub total-is-sum : (round : ℕ) → TotalIsSum P K L W N round
+  total-is-sum round zs opens heard frames h =
+      readings-to-total (poolOf P K) L W N round zs opens heard (λ u l. h .relays u l .carried) (λ u l. h .relays u l .full) frames (h .carried) (h .full)
 
 pub zero-sum : AcceptedIsZeroSum
 zero-sum = accepted-zero-sum
@@ -49,6 +55,9 @@ module _ (P : Plan) (K : List ℕ) where
   names-first = refused-names-first P K
 
 -- ---- rounds, records and key streams
+
+pub calls-are-runs : CallsAreRuns
+calls-are-runs frames = (λ R. (relay-run R frames, relay-answers R frames), λ R. (server-run R frames, server-answers R frames))
 
 pub answers-as-ledger : AnswersAsLedger
 answers-as-ledger = ledger-run

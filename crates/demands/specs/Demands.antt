@@ -1,6 +1,6 @@
 -- The demands, sentence by sentence. A statement is a type, and proofs/Demands has something of each. The promises of the code name the same definitions:
 -- the vet's answer is `verdict`, an upload `uploadOf`, a round after some calls `runOf`, and so on.
-use Prim.Native.Nat.{ℕ, suc, _+_, _-_, _*_, _≤_, _<_}
+use Prim.Native.Nat.{ℕ, suc, _+_, _-_, _*_, _%_, _≤_, _<_}
 use mathlib.Core.Path.{_≡_}
 use mathlib.Core.Logic.{_↔_}
 use mathlib.Core.Bool.{Bool, true}
@@ -9,6 +9,7 @@ use lib.ListN.{length, take, drop}
 use Rattle.refusals.specs.Codes.{accepted, firstOf, ifAccepted}
 use Rattle.matrices.specs.Linear.{at, All, Vector}
 use Rattle.secrecy.specs.Lists.{tab}
+use Rattle.secrecy.specs.Counts.{sumTo}
 use Rattle.secrecy.specs.Model.{Pool, reading, key, upload, relaySum, total, ZeroSum, view}
 use Rattle.secrecy.specs.Leaks.{number, Symbols, Agrees, PairLeak}
 use Rattle.plans.specs.declared.Plan.{Plan}
@@ -19,8 +20,11 @@ use Rattle.vetting.specs.Verdict.{otherChecks, verdict}
 use Rattle.keys.specs.Keys.{keysOf}
 use Rattle.masking.specs.Blocks.{uploadOf, unmaskedOf}
 use Rattle.rounds.specs.declared.Round.{Round}
+use Rattle.rounds.specs.declared.RelayRound.{RelayRound}
+use Rattle.rounds.specs.declared.ServerRound.{ServerRound}
 use Rattle.rounds.specs.Ledger.{Frame}
-use Rattle.rounds.specs.Rounds.{oneOf, openChecks, opened, stateChecks, after, giveCode, answersOf, runOf, ledgerAnswers, ledgerOf, everyone, Carries}
+use Rattle.rounds.specs.Rounds.{oneOf, openChecks, opened, stateChecks, after, giveCode, sumsAfter, answersOf, runOf, ledgerAnswers, ledgerOf, everyone, Carries}
+use Rattle.rounds.specs.Rounds.{relayRound, relayKnown, relayRun, relayAnswers, serverRound, serverRun, serverAnswers}
 use Rattle.records.specs.Records.{recordOf, planRead, tableRead, start, readVerdict, writeVerdict}
 use Rattle.streams.specs.Streams.{drawn, positionAfterAll, symbolsDrawn, placesDrawn}
 
@@ -56,32 +60,47 @@ module _ (P : Plan) (K : List ℕ) (L : ℕ) (W N : List ℕ) where
     abbrev sent : ℕ → ℕ → List ℕ
     sent u v = tab L (upload pool L W N (u * P .size + (v - 1)))
 
-    -- "relay sums": (26). Whatever frames a relay gets, in whatever order, if those that count carry their senders' uploads and everyone is counted
+    -- after these frames a round gives its sums out, into any buffer of L symbols, and they are f 0, f 1, ..
+    abbrev gives : ℕ → Bool → List Frame → (ℕ → ℕ) → Type 0
+    gives senders known frames f =
+        (out : List ℕ) → length out ≡ L
+        → (giveCode senders known (runOf senders known opening frames) out ≡ accepted)
+        × (sumsAfter senders known (runOf senders known opening frames) out ≡ tab L f)
+
+    -- relay u, from 0, gets any frames, in any order; those that count carry their senders' uploads, and everyone is counted
+    pub record Heard (u : ℕ) (frames : List Frame) : Type 0 where
+      pub carried : All (Carries (P .size) (oneOf (P .clusters) (suc u)) opening (sent u)) frames
+      pub full : everyone (P .size) (oneOf (P .clusters) (suc u)) opening frames ≡ true
+
+    -- "relay sums": (26)
     abbrev pub RelaySumsAre : Type 0
     RelaySumsAre =
-        (u : ℕ) (frames : List Frame) → opens (oneOf (P .clusters) (suc u))
-        → All (Carries (P .size) (oneOf (P .clusters) (suc u)) opening (sent u)) frames
-        → everyone (P .size) (oneOf (P .clusters) (suc u)) opening frames ≡ true
-        → (p : ℕ) → p < L → at (runOf (P .size) (oneOf (P .clusters) (suc u)) opening frames .sums) p ≡ relaySum pool L W N u p
+        (u : ℕ) (frames : List Frame) → opens (oneOf (P .clusters) (suc u)) → Heard u frames
+        → gives (P .size) (oneOf (P .clusters) (suc u)) frames (relaySum pool L W N u)
 
     -- what relay s, from 1, holds after the frames that it gets
     abbrev relayed : (ℕ → List Frame) → ℕ → List ℕ
     relayed heard s = take L (runOf (P .size) (oneOf (P .clusters) s) opening (heard (s - 1)) .sums)
 
+    -- each relay gets such frames, and the server any frames, in any order; those that count carry what the relays hold, and every relay is counted
+    pub record AllHeard (heard : ℕ → List Frame) (frames : List Frame) : Type 0 where
+      pub relays : (u : ℕ) → u < P .clusters → Heard u (heard u)
+      pub carried : All (Carries (P .clusters) true opening (relayed heard)) frames
+      pub full : everyone (P .clusters) true opening frames ≡ true
+
+    -- "the total": the sum of the relay sums, whatever the table
+    abbrev pub TotalIs : Type 0
+    TotalIs =
+        opens true → (heard : ℕ → List Frame) (frames : List Frame) → AllHeard heard frames
+        → gives (P .clusters) true frames (λ p. sumTo (P .clusters) (λ u. relaySum pool L W N u p) % P .q)
+
     -- "When one key block under a zero-sum table masks each user once, the total is the sum of the readings modulo the prime, in whatever order frames
-    -- arrive": each relay gets any frames as above, the server any frames of which those that count carry what the relays hold; once everyone is counted
-    -- the server gives its sums out, and they are the totals
+    -- arrive"
     abbrev pub TotalIsSum : Type 0
     TotalIsSum =
         ZeroSum pool → opens true
-        → (heard : ℕ → List Frame)
-        → ((u : ℕ) → u < P .clusters → All (Carries (P .size) (oneOf (P .clusters) (suc u)) opening (sent u)) (heard u))
-        → ((u : ℕ) → u < P .clusters → everyone (P .size) (oneOf (P .clusters) (suc u)) opening (heard u) ≡ true)
-        → (frames : List Frame)
-        → All (Carries (P .clusters) true opening (relayed heard)) frames → everyone (P .clusters) true opening frames ≡ true
-        → (out : List ℕ) → length out ≡ L
-        → (giveCode (P .clusters) true (runOf (P .clusters) true opening frames) out ≡ accepted)
-        × (take L (runOf (P .clusters) true opening frames .sums) ≡ tab L (total pool L W))
+        → (heard : ℕ → List Frame) (frames : List Frame) → AllHeard heard frames
+        → gives (P .clusters) true frames (total pool L W)
 
 -- the key table of a plan that the vet accepts is a zero-sum table
 abbrev pub AcceptedIsZeroSum : Type 0
@@ -121,6 +140,17 @@ module _ (P : Plan) (K : List ℕ) where
       ↔ First (λ p. PairLeak (poolOf P K) (p .coalition) (p .observer)) (pairs (P .clusters) (P .size) (P .limit)) p
 
 -- ---- rounds, records and key streams
+
+-- calls of `count`, one after the other, are the runs that are spoken of above
+abbrev pub CallsAreRuns : Type 0
+CallsAreRuns =
+    (frames : List Frame)
+    → ((R : RelayRound)
+    → (relayRun R frames ≡ relayRound (R .cluster) (runOf (R .round .size) (relayKnown R) (R .round) frames))
+    × (relayAnswers R frames ≡ answersOf (R .round .size) (relayKnown R) (R .round) frames))
+    × ((R : ServerRound)
+    → (serverRun R frames ≡ serverRound (runOf (R .round .clusters) true (R .round) frames))
+    × (serverAnswers R frames ≡ answersOf (R .round .clusters) true (R .round) frames))
 
 -- "A round answers as a roll of names and a running sum would": for every state that is handed in, good or bad, and any frames, of so many senders
 abbrev pub AnswersAsLedger : Type 0

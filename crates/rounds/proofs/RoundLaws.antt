@@ -14,7 +14,7 @@ use lib.Pow.{pow-pos}
 use lib.Seq.{getD-take, getD-drop, length-take-le}
 use borrow.Author.Tests.{not-false, eq-eqb, ne-eqb, lt-ltb}
 use Rattle.refusals.specs.Codes.{code, accepted, firstOf}
-use Rattle.refusals.proofs.CodeLaws.{none-holds}
+use Rattle.refusals.proofs.CodeLaws.{none-holds, accepted-takes}
 use Rattle.arithmetic.specs.Primes.{allBelow}
 use Rattle.arithmetic.proofs.Searches.{T→true, true→T, all-at}
 use Rattle.arithmetic.proofs.PrimeLaws.{prime-pos, at-below}
@@ -26,7 +26,7 @@ use Rattle.secrecy.proofs.ListLaws.{at-tab, tab-at, length-tab}
 use Rattle.refusals.proofs.Orders.{first-accepts, rest-decides}
 use Rattle.rounds.specs.declared.Round.{Round}
 use Rattle.rounds.specs.Ledger.{Frame, named, countedAt}
-use Rattle.rounds.specs.Rounds.{sumsFit, openChecks, opened, stateChecks, hasReported, frameChecks, giveChecks, stepCode, runOf, noted, ledgerOf, everyone, Carries}
+use Rattle.rounds.specs.Rounds.{sumsFit, openChecks, opened, stateChecks, hasReported, frameChecks, giveChecks, stepCode, giveCode, sumsAfter, runOf, noted, ledgerOf, everyone, Carries}
 use Rattle.rounds.proofs.CheckLaws.{Opening, opening-known, Passed, frame-known}
 use Rattle.rounds.proofs.ReportedLaws.{no-bits}
 use Rattle.rounds.proofs.StepLaws.{all-cong, or-none}
@@ -203,3 +203,21 @@ module _ (senders : ℕ) (known : Bool) (clusters size q L number : ℕ) (pass :
         turn true true = refl
         turn true false = refl
         turn false b = refl
+
+  -- everyone's sums are given out, into any buffer of L symbols
+  pub full-given : (B : ℕ → List ℕ) (frames : List Frame) → All (Carries senders known R B) frames → everyone senders known R frames ≡ true
+      → (out : List ℕ) → length out ≡ L
+      → (giveCode senders known (runOf senders known R frames) out ≡ accepted)
+      × (sumsAfter senders known (runOf senders known R frames) out ≡ tab L (λ p. sumTo senders (λ v. at (B (suc v)) p) % q))
+  full-given B frames carry full out room =
+      let X : Round = runOf senders known R frames in
+      let (a, r, s) = good-run senders known R opened-state (length-zeros 64) frames in
+      let told : giveCode senders known X out ≡ accepted =
+      give-code frames out
+      ∙ ap (λ (t : Bool). cond t (cond (eqb (length out) L) accepted (code 4)) (code 12)) full
+      ∙ ap (λ (t : Bool). cond t accepted (code 4)) (eq-eqb (length out) L room) in (
+        told,
+        accepted-takes (giveCode senders known X out) (take (X .length) (X .sums)) out (sym told)
+            ∙ ap (λ (n : ℕ). take n (X .sums)) (ap (λ (Y : Round). Y .length) r)
+            ∙ full-block B frames carry full,
+      )

@@ -10,7 +10,7 @@ use Rattle.rounds.specs.declared.Round.{Round}
 use Rattle.rounds.specs.declared.RelayRound.{RelayRound}
 use Rattle.rounds.specs.declared.ServerRound.{ServerRound}
 use Rattle.rounds.specs.Ledger.{Frame}
-use Rattle.rounds.specs.Rounds.{oneOf, after, stepCode, stepped, answersOf, runOf, relayKnown, relayRound, relayCode, relayNext, serverRound, serverCode, serverNext}
+use Rattle.rounds.specs.Rounds.{oneOf, after, stepCode, stepped, answersOf, runOf, relayKnown, relayRound, relayCode, relayNext, serverRound, serverCode, serverNext, relayRun, relayAnswers, serverRun, serverAnswers}
 
 -- ---- a step keeps the plan's counts
 
@@ -30,14 +30,6 @@ module _ (senders : ℕ) (known : Bool) (R : Round) (f : Frame) where
   step-size = same-size (eqb (stepCode senders known R f .number) 0)
 
 -- ---- a relay
-
-unfoldable pub relayRun : RelayRound → List Frame → RelayRound
-relayRun R [] = R
-relayRun R (f ∷ frames) = relayRun (relayNext R f) frames
-
-unfoldable pub relayAnswers : RelayRound → List Frame → List Code
-relayAnswers R [] = []
-relayAnswers R (f ∷ frames) = relayCode R f ∷ relayAnswers (relayNext R f) frames
 
 next-known : (R : RelayRound) (f : Frame) → relayKnown (relayNext R f) ≡ relayKnown R
 next-known R f = ap (λ (n : ℕ). oneOf n (R .cluster)) (step-clusters (R .round .size) (relayKnown R) (R .round) f)
@@ -60,14 +52,6 @@ relay-answers R (f ∷ frames) =
     (step-size (R .round .size) (relayKnown R) (R .round) f) (next-known R f))
 
 -- ---- the server
-
-unfoldable pub serverRun : ServerRound → List Frame → ServerRound
-serverRun R [] = R
-serverRun R (f ∷ frames) = serverRun (serverNext R f) frames
-
-unfoldable pub serverAnswers : ServerRound → List Frame → List Code
-serverAnswers R [] = []
-serverAnswers R (f ∷ frames) = serverCode R f ∷ serverAnswers (serverNext R f) frames
 
 pub server-run : (R : ServerRound) (frames : List Frame) → serverRun R frames ≡ serverRound (runOf (R .round .clusters) true (R .round) frames)
 unfolding serverRun runOf

@@ -2,14 +2,13 @@
 -- columns sum to zero the keys cancel. Frames may come in any order, repeated, late or bad.
 use Prim.Native.Nat.{ℕ, suc, _+_, _-_, _*_, _%_, _<_}
 use mathlib.Core.Path.{_≡_, sym, ap, ap₂, _∙_, subst}
-use mathlib.Core.Bool.{Bool, true, cond, _&&_}
-use mathlib.Core.List.{List, []}
+use mathlib.Core.Bool.{Bool, true, _&&_}
+use mathlib.Core.List.{List}
 use native.Mathlib.Omega.{arith}
-use lib.Dec.{eqb}
 use lib.ListN.{length, take}
 use lib.Seq.{getD-take}
-use borrow.Author.Tests.{eq-eqb, le-leb}
-use Rattle.refusals.specs.Codes.{code, accepted, firstOf}
+use borrow.Author.Tests.{le-leb}
+use Rattle.refusals.specs.Codes.{accepted, firstOf}
 use Rattle.arithmetic.proofs.Congruence.{Cong, to-mod, of-eq, of-rem, c-refl, c-trans, c-add}
 use Rattle.matrices.specs.Linear.{at, All}
 use Rattle.matrices.proofs.Notions.{dotN}
@@ -24,8 +23,8 @@ use Rattle.secrecy.proofs.PoolForms.{dot-key}
 use Rattle.secrecy.proofs.Clusters.{rows-none}
 use Rattle.rounds.specs.declared.Round.{Round}
 use Rattle.rounds.specs.Ledger.{Frame}
-use Rattle.rounds.specs.Rounds.{oneOf, openChecks, opened, giveChecks, runOf, everyone, Carries}
-use Rattle.rounds.proofs.RoundLaws.{full-sums, full-block, give-code}
+use Rattle.rounds.specs.Rounds.{oneOf, openChecks, opened, giveCode, sumsAfter, runOf, everyone, Carries}
+use Rattle.rounds.proofs.RoundLaws.{full-sums, full-given}
 
 module _ (P : Pool) (L : ℕ) (W N : List ℕ) where
   -- ---- the equations
@@ -63,51 +62,50 @@ module _ (P : Pool) (L : ℕ) (W N : List ℕ) where
     abbrev pub uploaded : ℕ → ℕ → List ℕ
     uploaded u v = tab L (upload P L W N (u * P .size + (v - 1)))
 
-    -- a relay that has heard its whole cluster holds its relay sums
-    pub relay-sums : (known : Bool) → accepted ≡ firstOf (openChecks (P .clusters) (P .size) (P .q) L known) → (u : ℕ) (frames : List Frame)
-        → All (Carries (P .size) known opening (uploaded u)) frames → everyone (P .size) known opening frames ≡ true
-        → (p : ℕ) → p < L → at (runOf (P .size) known opening frames .sums) p ≡ relaySum P L W N u p
+    -- the uploads of a cluster add up to its relay sum
+    uploads-add : (u p : ℕ) → p < L → sumTo (P .size) (λ v. at (uploaded u (suc v)) p) % P .q ≡ relaySum P L W N u p
     unfolding relaySum
-    relay-sums known pass u frames carry full p h =
-        full-sums (P .size) known (P .clusters) (P .size) (P .q) L number pass (uploaded u) frames carry full p h
-        ∙ ap (λ (z : ℕ). z % P .q)
+    uploads-add u p h =
+        ap (λ (z : ℕ). z % P .q)
         (sum-cong (P .size) (λ v. at (uploaded u (suc v)) p) (λ v. upload P L W N (u * P .size + v) p)
         (λ v l.
         at-tab L (upload P L W N (u * P .size + (suc v - 1))) p h
         ∙ ap (λ (w : ℕ). upload P L W N (u * P .size + w) p) (omega arith)))
 
-    -- a server that has heard every relay's sums gives out the totals
-    pub server-total : ZeroSum P → accepted ≡ firstOf (openChecks (P .clusters) (P .size) (P .q) L true)
-        → (B : ℕ → List ℕ) → ((u p : ℕ) → u < P .clusters → p < L → at (B (suc u)) p ≡ relaySum P L W N u p)
-        → (frames : List Frame) → All (Carries (P .clusters) true opening B) frames → everyone (P .clusters) true opening frames ≡ true
-        → take L (runOf (P .clusters) true opening frames .sums) ≡ tab L (total P L W)
-    server-total zs pass B sums frames carry full =
-        full-block (P .clusters) true (P .clusters) (P .size) (P .q) L number pass B frames carry full
-        ∙ tab-cong L (λ p. sumTo (P .clusters) (λ u. at (B (suc u)) p) % P .q) (total P L W)
-        (λ p h.
-        ap (λ (z : ℕ). z % P .q) (sum-cong (P .clusters) (λ u. at (B (suc u)) p) (λ u. relaySum P L W N u p) (λ u l. sums u p l h))
-        ∙ relays-total zs p)
+    -- what a round gives out after these frames, into any buffer of L symbols
+    abbrev pub Gives : ℕ → Bool → List Frame → (ℕ → ℕ) → Type 0
+    Gives senders known frames f =
+        (out : List ℕ) → length out ≡ L
+        → (giveCode senders known (runOf senders known opening frames) out ≡ accepted)
+        × (sumsAfter senders known (runOf senders known opening frames) out ≡ tab L f)
 
-    -- what relay s, from 1, gives out after these frames
+    -- a relay that has heard its whole cluster gives out its relay sums
+    pub relay-sums : (known : Bool) → accepted ≡ firstOf (openChecks (P .clusters) (P .size) (P .q) L known) → (u : ℕ) (frames : List Frame)
+        → All (Carries (P .size) known opening (uploaded u)) frames → everyone (P .size) known opening frames ≡ true
+        → Gives (P .size) known frames (relaySum P L W N u)
+    relay-sums known pass u frames carry full out room =
+        let (told, sums) = full-given (P .size) known (P .clusters) (P .size) (P .q) L number pass (uploaded u) frames carry full out room in
+        (told, sums ∙ tab-cong L (λ p. sumTo (P .size) (λ v. at (uploaded u (suc v)) p) % P .q) (relaySum P L W N u) (uploads-add u))
+
+    -- what relay s, from 1, holds after these frames
     abbrev pub relayed : (ℕ → List Frame) → ℕ → List ℕ
     relayed frames s = take L (runOf (P .size) (oneOf (P .clusters) s) opening (frames (s - 1)) .sums)
 
-    -- From the readings to the shown total: each relay hears its users' uploads, the server what the relays give out. Whatever else comes, and in
-    -- whatever order, once everyone has been heard the server accepts to give its sums, and they are the totals of the readings.
-    pub readings-to-total : ZeroSum P → accepted ≡ firstOf (openChecks (P .clusters) (P .size) (P .q) L true)
+    -- From the uploads to the total: each relay hears its users' uploads, the server what the relays hold. Whatever else comes, and in whatever order,
+    -- once everyone has been heard the server gives out the sums of the relay sums.
+    pub server-sums : accepted ≡ firstOf (openChecks (P .clusters) (P .size) (P .q) L true)
         → (heard : ℕ → List Frame)
         → ((u : ℕ) → u < P .clusters → All (Carries (P .size) (oneOf (P .clusters) (suc u)) opening (uploaded u)) (heard u))
         → ((u : ℕ) → u < P .clusters → everyone (P .size) (oneOf (P .clusters) (suc u)) opening (heard u) ≡ true)
         → (frames : List Frame) → All (Carries (P .clusters) true opening (relayed heard)) frames → everyone (P .clusters) true opening frames ≡ true
-        → (out : List ℕ) → length out ≡ L
-        → (firstOf (giveChecks (P .clusters) true (runOf (P .clusters) true opening frames) [] out) ≡ accepted)
-        × (take L (runOf (P .clusters) true opening frames .sums) ≡ tab L (total P L W))
-    readings-to-total zs pass heard uploads full frames sums all out room = (
-      give-code (P .clusters) true (P .clusters) (P .size) (P .q) L number pass frames out
-          ∙ ap (λ (t : Bool). cond t (cond (eqb (length out) L) accepted (code 4)) (code 12)) all
-          ∙ ap (λ (t : Bool). cond t accepted (code 4)) (eq-eqb (length out) L room),
-      server-total zs pass (relayed heard) each frames sums all,
-    )
+        → Gives (P .clusters) true frames (λ p. sumTo (P .clusters) (λ u. relaySum P L W N u p) % P .q)
+    server-sums pass heard uploads full frames sums all out room =
+        let (told, given) = full-given (P .clusters) true (P .clusters) (P .size) (P .q) L number pass (relayed heard) frames sums all out room in (
+          told,
+          given
+              ∙ tab-cong L (λ p. sumTo (P .clusters) (λ u. at (relayed heard (suc u)) p) % P .q) (λ p. sumTo (P .clusters) (λ u. relaySum P L W N u p) % P .q)
+              (λ p h. ap (λ (z : ℕ). z % P .q) (sum-cong (P .clusters) (λ u. at (relayed heard (suc u)) p) (λ u. relaySum P L W N u p) (λ u l. each u p l h))),
+        )
       where
         listed : (u : ℕ) → u < P .clusters → oneOf (P .clusters) (suc u) ≡ true
         listed u l = ap₂ _&&_ (le-leb 1 (suc u) (omega arith)) (le-leb (suc u) (P .clusters) (omega arith))
@@ -119,4 +117,16 @@ module _ (P : Pool) (L : ℕ) (W N : List ℕ) where
         each u p l h =
             getD-take L (runOf (P .size) (oneOf (P .clusters) (suc u)) opening (heard (suc u - 1)) .sums) p 0 h
             ∙ ap (λ (w : ℕ). at (runOf (P .size) (oneOf (P .clusters) (suc u)) opening (heard w) .sums) p) (omega arith)
-            ∙ relay-sums (oneOf (P .clusters) (suc u)) (opens u l) u (heard u) (uploads u l) (full u l) p h
+            ∙ full-sums (P .size) (oneOf (P .clusters) (suc u)) (P .clusters) (P .size) (P .q) L number (opens u l) (uploaded u) (heard u) (uploads u l) (full u l) p h
+            ∙ uploads-add u p h
+
+    -- and with a zero-sum table these are the totals of the readings
+    pub readings-to-total : ZeroSum P → accepted ≡ firstOf (openChecks (P .clusters) (P .size) (P .q) L true)
+        → (heard : ℕ → List Frame)
+        → ((u : ℕ) → u < P .clusters → All (Carries (P .size) (oneOf (P .clusters) (suc u)) opening (uploaded u)) (heard u))
+        → ((u : ℕ) → u < P .clusters → everyone (P .size) (oneOf (P .clusters) (suc u)) opening (heard u) ≡ true)
+        → (frames : List Frame) → All (Carries (P .clusters) true opening (relayed heard)) frames → everyone (P .clusters) true opening frames ≡ true
+        → Gives (P .clusters) true frames (total P L W)
+    readings-to-total zs pass heard uploads full frames sums all out room =
+        let (told, given) = server-sums pass heard uploads full frames sums all out room in
+        (told, given ∙ tab-cong L (λ p. sumTo (P .clusters) (λ u. relaySum P L W N u p) % P .q) (total P L W) (λ p h. relays-total zs p))

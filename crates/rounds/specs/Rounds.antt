@@ -167,6 +167,15 @@ relayCode R f = stepCode (R .round .size) (relayKnown R) (R .round) f
 abbrev pub relayNext : RelayRound → Frame → RelayRound
 relayNext R f = relayRound (R .cluster) (stepped (R .round .size) (relayKnown R) (R .round) f)
 
+-- calls of `count`, one after the other, each on the round that the one before handed back: the round after them, and the answers
+unfoldable pub relayRun : RelayRound → List Frame → RelayRound
+relayRun R [] = R
+relayRun R (f ∷ frames) = relayRun (relayNext R f) frames
+
+unfoldable pub relayAnswers : RelayRound → List Frame → List Code
+relayAnswers R [] = []
+relayAnswers R (f ∷ frames) = relayCode R f ∷ relayAnswers (relayNext R f) frames
+
 -- a call of `give`: its answer, and the lent buffer
 abbrev pub relayGiveCode : RelayRound → List ℕ → Code
 relayGiveCode R out = giveCode (R .round .size) (relayKnown R) (R .round) out
@@ -184,6 +193,14 @@ serverCode R f = stepCode (R .round .clusters) true (R .round) f
 
 abbrev pub serverNext : ServerRound → Frame → ServerRound
 serverNext R f = serverRound (stepped (R .round .clusters) true (R .round) f)
+
+unfoldable pub serverRun : ServerRound → List Frame → ServerRound
+serverRun R [] = R
+serverRun R (f ∷ frames) = serverRun (serverNext R f) frames
+
+unfoldable pub serverAnswers : ServerRound → List Frame → List Code
+serverAnswers R [] = []
+serverAnswers R (f ∷ frames) = serverCode R f ∷ serverAnswers (serverNext R f) frames
 
 abbrev pub serverGiveCode : ServerRound → List ℕ → Code
 serverGiveCode R out = giveCode (R .round .clusters) true (R .round) out
