@@ -4,15 +4,15 @@ use mathlib.Core.List.{List}
 use Rattle.plans.specs.declared.Plan.{Plan}
 use Rattle.plans.specs.Plans.{poolOf}
 use Rattle.vetting.proofs.ExactSecrecy.{accepted-equal-numbers, refused-iff-leaks, refused-names-first}
-use Rattle.masking.proofs.BlockLaws.{unmask-upload}
+use Rattle.masking.proofs.BlockLaws.{unmask-gives-back}
 use Rattle.rounds.specs.Rounds.{oneOf}
 use Rattle.rounds.proofs.LedgerLaws.{ledger-run}
 use Rattle.rounds.proofs.Runs.{relay-run, relay-answers, server-run, server-answers}
 use Rattle.rounds.proofs.Totals.{relay-sums, server-sums, readings-to-total}
 use Rattle.records.proofs.RecordChecks.{writable}
 use Rattle.records.proofs.RecordLaws.{write-read, written-accepted, one-record}
-use Rattle.streams.proofs.StreamLaws.{draws-give, draws-placed, draws-disjoint}
-use Rattle.demands.specs.Demands.{KeysAre, UploadsAre, RelaySumsAre, TotalIs, TotalIsSum, AcceptedIsZeroSum, Unmasks, EqualNumbers, RefusedIfLeaks, NamesFirst}
+use Rattle.streams.proofs.StreamLaws.{draws-give, draws-counted, draws-placed, draws-disjoint}
+use Rattle.demands.specs.Demands.{KeysAre, UploadsAre, RelaySumsAre, TotalIs, TotalIsSum, AcceptedIsZeroSum, Unmasks, EqualNumbers, RefusedIffLeaks, NamesFirst}
 use Rattle.demands.specs.Demands.{CallsAreRuns, AnswersAsLedger, WrittenIsRead, OneRecord, DrawnOnce}
 use Rattle.demands.proofs.Equations.{keys-are, sent-is, accepted-zero-sum}
 
@@ -40,7 +40,7 @@ pub zero-sum : AcceptedIsZeroSum
 zero-sum = accepted-zero-sum
 
 pub unmasks : Unmasks
-unmasks = unmask-upload
+unmasks = unmask-gives-back
 
 -- ---- demand 3
 
@@ -48,8 +48,8 @@ module _ (P : Plan) (K : List ℕ) where
   pub equal-numbers : EqualNumbers P K
   equal-numbers = accepted-equal-numbers P K
 
-  pub refused-if-leaks : RefusedIfLeaks P K
-  refused-if-leaks = refused-iff-leaks P K
+  pub refused-iff : RefusedIffLeaks P K
+  refused-iff = refused-iff-leaks P K
 
   pub names-first : NamesFirst P K
   names-first = refused-names-first P K
@@ -71,4 +71,4 @@ pub record-is-one : OneRecord
 record-is-one = one-record
 
 pub drawn-once : DrawnOnce
-drawn-once stream position draws = (draws-give stream position draws, draws-placed stream position draws, draws-disjoint stream position draws)
+drawn-once stream position draws = (draws-give stream position draws, draws-counted stream position draws, draws-placed stream position draws, draws-disjoint stream position draws)

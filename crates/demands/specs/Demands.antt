@@ -7,7 +7,7 @@ use mathlib.Core.Bool.{Bool, true}
 use mathlib.Core.List.{List, [], _++_}
 use lib.ListN.{length, take, drop}
 use Rattle.refusals.specs.Codes.{accepted, firstOf, ifAccepted}
-use Rattle.matrices.specs.Linear.{at, All, Vector}
+use Rattle.matrices.specs.Linear.{at, All}
 use Rattle.secrecy.specs.Lists.{tab}
 use Rattle.secrecy.specs.Counts.{sumTo}
 use Rattle.secrecy.specs.Model.{Pool, reading, key, upload, relaySum, total, ZeroSum, view}
@@ -18,7 +18,7 @@ use Rattle.vetting.specs.declared.Pair.{Pair}
 use Rattle.vetting.specs.Walk.{pairs, InWalk, First}
 use Rattle.vetting.specs.Verdict.{otherChecks, verdict}
 use Rattle.keys.specs.Keys.{keysOf}
-use Rattle.masking.specs.Blocks.{uploadOf, unmaskedOf}
+use Rattle.masking.specs.Blocks.{uploadOf, blockCode, unmaskAfter}
 use Rattle.rounds.specs.declared.Round.{Round}
 use Rattle.rounds.specs.declared.RelayRound.{RelayRound}
 use Rattle.rounds.specs.declared.ServerRound.{ServerRound}
@@ -106,9 +106,11 @@ module _ (P : Plan) (K : List ℕ) (L : ℕ) (W N : List ℕ) where
 abbrev pub AcceptedIsZeroSum : Type 0
 AcceptedIsZeroSum = (P : Plan) (K : List ℕ) → accepted ≡ verdict P K → ZeroSum (poolOf P K)
 
--- "taking a key off its upload gives the reading back"
+-- "taking a key off its upload gives the reading back": where a block W and a key Z are uploaded, taking the key off what is sent is not refused, and writes W
 abbrev pub Unmasks : Type 0
-Unmasks = (q L : ℕ) (W Z : List ℕ) → Vector q L W → unmaskedOf q L (uploadOf q L W Z) Z ≡ W
+Unmasks =
+    (q L : ℕ) (W Z out back : List ℕ) → accepted ≡ blockCode q L W Z out → length back ≡ L
+    → (accepted ≡ blockCode q L (uploadOf q L W Z) Z back) × (unmaskAfter q L (uploadOf q L W Z) Z back ≡ W)
 
 -- ---- demand 3: a plan P with key table K
 
@@ -126,8 +128,8 @@ module _ (P : Plan) (K : List ℕ) where
 
   -- "A plan that passes the other checks is refused as leaking exactly when, for some coalition, observer and block length, some such pair has unequal
   -- numbers for some view"
-  abbrev pub RefusedIfLeaks : Type 0
-  RefusedIfLeaks =
+  abbrev pub RefusedIffLeaks : Type 0
+  RefusedIffLeaks =
       accepted ≡ firstOf (otherChecks P K)
       → _≡_ {A = ℕ} (verdict P K .number) 7 ↔ ((g : ℕ) × (w : ℕ) × InWalk P g w × PairLeak (poolOf P K) g w)
 
@@ -173,12 +175,13 @@ OneRecord =
     → planRead B ≡ planRead C → tableRead B ≡ tableRead C
     → drop (start B) B ≡ drop (start C) C
 
--- "No symbol is drawn twice from a position that only draws have moved": a run of draws gives the symbols between its first position and its last, each is
--- the stream's at its place, and no two have the same place
+-- "No symbol is drawn twice from a position that only draws have moved": a run of draws gives the symbols between its first position and its last; each has a
+-- place, and is the stream's there; and no two have the same place
 abbrev pub DrawnOnce : Type 0
 DrawnOnce =
     (stream : List ℕ) (position : ℕ) (draws : List (ℕ × List ℕ))
     → (symbolsDrawn stream position draws ≡ drawn stream position (positionAfterAll stream position draws - position))
+    × (position ≤ length stream → length (symbolsDrawn stream position draws) ≡ length (placesDrawn stream position draws))
     × ((k : ℕ) → k < length (placesDrawn stream position draws)
     → at (symbolsDrawn stream position draws) k ≡ at stream (at (placesDrawn stream position draws) k))
     × ((i j : ℕ) → i < length (placesDrawn stream position draws) → j < length (placesDrawn stream position draws)

@@ -8,17 +8,17 @@ use lib.ListN.{length}
 use lib.Dec.{T, eqb, eqb→eq}
 use borrow.Author.Tests.{not-false, eq-eqb}
 use Rattle.refusals.specs.Codes.{accepted, firstOf, ifAccepted}
-use Rattle.refusals.proofs.CodeLaws.{none-holds}
+use Rattle.refusals.proofs.CodeLaws.{none-holds, accepted-takes}
 use Rattle.arithmetic.specs.Primes.{isPrime, allBelow}
 use Rattle.arithmetic.specs.Field.{sumOf, differenceOf}
 use Rattle.arithmetic.proofs.Searches.{true→T, T→true, T-and}
-use Rattle.arithmetic.proofs.PrimeLaws.{prime-pos, true-prime, at-below}
+use Rattle.arithmetic.proofs.PrimeLaws.{prime-pos, true-prime, at-below, below-at}
 use Rattle.arithmetic.proofs.Congruence.{residue-mod}
 use Rattle.arithmetic.proofs.FieldLaws.{sum-difference}
 use Rattle.matrices.specs.Linear.{at, Vector}
 use Rattle.secrecy.proofs.ListLaws.{at-tab, tab-at, tab-vector}
 use Rattle.plans.specs.Plans.{lengthFits}
-use Rattle.masking.specs.Blocks.{uploadOf, unmaskedOf, blockChecks, blockCode}
+use Rattle.masking.specs.Blocks.{uploadOf, unmaskedOf, blockChecks, blockCode, unmaskAfter}
 use Rattle.refusals.proofs.Answers.{filled}
 
 -- ---- the checks
@@ -89,4 +89,15 @@ unmask-accepts q L W K out back e room =
       eq-eqb (length back) L room,
       T→true (allBelow q (uploadOf q L W K)) below,
       T→true (allBelow q K) (f .second-below),
+    )
+
+-- so that it writes the readings there
+pub unmask-gives-back : (q L : ℕ) (W K out back : List ℕ) → accepted ≡ blockCode q L W K out → length back ≡ L
+    → (accepted ≡ blockCode q L (uploadOf q L W K) K back) × (unmaskAfter q L (uploadOf q L W K) K back ≡ W)
+unmask-gives-back q L W K out back e room =
+    let f = fitting q L W K out e in
+    let told = unmask-accepts q L W K out back e room in (
+      told,
+      accepted-takes (blockCode q L (uploadOf q L W K) K back) (unmaskedOf q L (uploadOf q L W K) K) back told
+          ∙ unmask-upload q L W K (record { size = f .first; small = λ i _. below-at q W (f .positive) (f .first-below) i }),
     )
