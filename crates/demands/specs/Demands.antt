@@ -23,7 +23,8 @@ use Rattle.rounds.specs.declared.Round.{Round}
 use Rattle.rounds.specs.declared.RelayRound.{RelayRound}
 use Rattle.rounds.specs.declared.ServerRound.{ServerRound}
 use Rattle.rounds.specs.Ledger.{Frame}
-use Rattle.rounds.specs.Rounds.{oneOf, openChecks, opened, stateChecks, after, giveCode, sumsAfter, answersOf, runOf, ledgerAnswers, ledgerOf, everyone, Carries}
+use Rattle.rounds.specs.Rounds.{oneOf, openChecks, opened, stateChecks, after, giveCode, sumsAfter, answersOf, runOf}
+use Rattle.rounds.specs.Rounds.{ledgerAnswers, ledgerOf, everyone, Carries}
 use Rattle.rounds.specs.Rounds.{relayRound, relayKnown, relayRun, relayAnswers, serverRound, serverRun, serverAnswers}
 use Rattle.records.specs.Records.{recordOf, planRead, tableRead, start, readVerdict, writeVerdict}
 use Rattle.streams.specs.Streams.{drawn, positionAfterAll, symbolsDrawn, placesDrawn}
