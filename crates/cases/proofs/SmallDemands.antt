@@ -6,7 +6,7 @@ use mathlib.Core.Path.{_≡_, refl, sym}
 use mathlib.Core.Bool.{true}
 use mathlib.Core.List.{List, [], _∷_}
 use lib.ListN.{length}
-use Rattle.refusals.specs.Codes.{accepted, firstOf}
+use Rattle.refusals.specs.Codes.{code, accepted, firstOf}
 use Rattle.arithmetic.specs.Search.{allTo}
 use Rattle.arithmetic.specs.Primes.{isPrime, allBelow}
 use Rattle.secrecy.specs.Lists.{tab}
@@ -18,8 +18,9 @@ use Rattle.plans.specs.Plans.{plan, poolOf}
 use Rattle.vetting.specs.Walk.{InWalk}
 use Rattle.vetting.specs.Verdict.{otherChecks}
 use Rattle.rounds.specs.Ledger.{Frame, frame, named, bitsOf, countedAt}
-use Rattle.rounds.specs.Rounds.{opened, sumsAfter, runOf, ledgerOf}
-use Rattle.demands.specs.Demands.{Heard, AllHeard}
+use Rattle.rounds.specs.Rounds.{opened, openRound, sumsAfter, runOf, ledgerOf}
+use Rattle.rounds.specs.Rounds.{relayOpened, relayRun, relayAnswers, relaySums, serverRound, serverAnswers}
+use Rattle.demands.specs.Demands.{Uploaded, AllHeard}
 use Rattle.demands.proofs.Demands.{zero-sum, total-is-sum, equal-numbers, names-first}
 use Rattle.cases.proofs.SmallPool.{rows, N, W, accepts, leaks-to-two}
 
@@ -38,31 +39,40 @@ passes = refl
 pub leak : PairLeak (poolOf (plan 2 2 2 3 5) rows) 3 2
 leak = names-first (plan 2 2 2 3 5) rows passes (record { coalition = 3; observer = 2 }) .0 leaks-to-two .here
 
--- ---- demand 2: round 9, the users' uploads 4, 1 and 2, 2, the relays' sums 0 and 4, each time the second sender first
+-- ---- demand 2: round 9, the users' uploads 4, 1 and 2, 2, the relays' sums 0 and 4. In relay 1 and in the server somebody repeats a frame that was counted
+-- with another block: it is refused with 11, and nothing is asked of that block.
 
-heard : ℕ → List Frame
-heard zero = frame 2 9 (1 ∷ []) ∷ frame 1 9 (4 ∷ []) ∷ []
-heard (suc u) = frame 2 9 (2 ∷ []) ∷ frame 1 9 (2 ∷ []) ∷ []
+pub got : ℕ → List Frame
+got zero = frame 1 9 (4 ∷ []) ∷ frame 1 9 (3 ∷ []) ∷ frame 2 9 (1 ∷ []) ∷ []
+got (suc u) = frame 2 9 (2 ∷ []) ∷ frame 1 9 (2 ∷ []) ∷ []
 
 abbrev sums : List Frame
-sums = frame 2 9 (4 ∷ []) ∷ frame 1 9 (0 ∷ []) ∷ []
+sums = frame 2 9 (4 ∷ []) ∷ frame 2 9 (1 ∷ []) ∷ frame 1 9 (0 ∷ []) ∷ []
 
-all-heard : AllHeard (plan 2 2 1 3 5) rows 1 W N 9 heard sums
-unfolding heard tab runOf isPrime allTo allBelow hasBit named bitsOf countedAt ledgerOf upload reading key sumTo
-all-heard =
-    record {
-      relays = each;
-      carried = ((λ _. refl), ((λ _. refl), tt));
-      full = refl;
-    }
+-- the answers, and what relay 1 writes into a lent buffer of one symbol
+pub relay-answers : relayAnswers (relayOpened 2 2 5 1 1 9) (got 0) ≡ accepted ∷ code 11 ∷ accepted ∷ []
+unfolding got relayAnswers tab isPrime allTo allBelow hasBit named bitsOf countedAt
+relay-answers = refl
+
+pub relay-gives : (out : List ℕ) → length out ≡ 1 → relaySums (relayRun (relayOpened 2 2 5 1 1 9) (got 0)) out ≡ 0 ∷ []
+unfolding got relayRun tab isPrime allTo allBelow hasBit named bitsOf countedAt
+relay-gives out room = rw room
+
+pub server-answers : serverAnswers (serverRound (openRound 2 2 5 1 true 9)) sums ≡ accepted ∷ code 11 ∷ accepted ∷ []
+unfolding serverAnswers tab isPrime allTo allBelow hasBit named bitsOf countedAt
+server-answers = refl
+
+all-heard : AllHeard (plan 2 2 1 3 5) rows 1 W N 9 got sums
+unfolding got tab runOf isPrime allTo allBelow hasBit named bitsOf countedAt ledgerOf upload reading key sumTo
+all-heard = record { uploads = each; sums = record { carried = (refl, (refl, tt)); full = refl } }
   where
-    each : (u : ℕ) → u < 2 → Heard (plan 2 2 1 3 5) rows 1 W N 9 u (heard u)
-    each zero l = record { carried = ((λ _. refl), ((λ _. refl), tt)); full = refl }
-    each (suc zero) l = record { carried = ((λ _. refl), ((λ _. refl), tt)); full = refl }
+    each : (u : ℕ) → u < 2 → Uploaded (plan 2 2 1 3 5) rows 1 W N 9 u (got u)
+    each zero l = record { carried = (refl, (refl, tt)); full = refl }
+    each (suc zero) l = record { carried = (refl, (refl, tt)); full = refl }
     each (suc (suc u)) l = absurd (omega arith)
 
 -- "total 4": what the server writes into a lent buffer of one symbol
 pub shown : (out : List ℕ) → length out ≡ 1
     → sumsAfter 2 true (runOf 2 true (opened 2 2 5 1 9) sums) out ≡ 4 ∷ []
 unfolding isPrime allTo tab total reading sumTo
-shown out room = total-is-sum (plan 2 2 1 3 5) rows 1 W N 9 (zero-sum (plan 2 2 1 3 5) rows (sym accepts)) refl heard sums all-heard out room .1
+shown out room = total-is-sum (plan 2 2 1 3 5) rows 1 W N 9 (zero-sum (plan 2 2 1 3 5) rows (sym accepts)) refl got sums all-heard out room .1

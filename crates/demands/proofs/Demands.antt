@@ -6,7 +6,7 @@ use Rattle.plans.specs.Plans.{poolOf}
 use Rattle.vetting.proofs.ExactSecrecy.{accepted-equal-numbers, refused-iff-leaks, refused-names-first}
 use Rattle.masking.proofs.BlockLaws.{unmask-gives-back}
 use Rattle.rounds.specs.Rounds.{oneOf}
-use Rattle.rounds.proofs.LedgerLaws.{ledger-run}
+use Rattle.rounds.proofs.LedgerLaws.{ledger-run, ledger-give}
 use Rattle.rounds.proofs.Runs.{relay-run, relay-answers, server-run, server-answers}
 use Rattle.rounds.proofs.Totals.{relay-sums, server-sums, readings-to-total}
 use Rattle.records.proofs.RecordChecks.{writable}
@@ -26,15 +26,13 @@ module _ (P : Plan) (K : List ℕ) (L : ℕ) (W N : List ℕ) where
   uploads h = sent-is P K h L W N
 
   pub relays : (round : ℕ) → RelaySumsAre P K L W N round
-  relays round u frames opens h = relay-sums (poolOf P K) L W N round (oneOf (P .clusters) (suc u)) opens u frames (h .carried) (h .full)
+  relays round u frames opens h = relay-sums (poolOf P K) L W N round (oneOf (P .clusters) (suc u)) opens u frames h
 
   pub total : (round : ℕ) → TotalIs P K L W N round
-  total round opens heard frames h =
-      server-sums (poolOf P K) L W N round opens heard (λ u l. h .relays u l .carried) (λ u l. h .relays u l .full) frames (h .carried) (h .full)
+  total round opens got frames h = server-sums (poolOf P K) L W N round opens got (h .uploads) frames (h .sums)
 
   pub total-is-sum : (round : ℕ) → TotalIsSum P K L W N round
-  total-is-sum round zs opens heard frames h =
-      readings-to-total (poolOf P K) L W N round zs opens heard (λ u l. h .relays u l .carried) (λ u l. h .relays u l .full) frames (h .carried) (h .full)
+  total-is-sum round zs opens got frames h = readings-to-total (poolOf P K) L W N round zs opens got (h .uploads) frames (h .sums)
 
 pub zero-sum : AcceptedIsZeroSum
 zero-sum = accepted-zero-sum
@@ -60,7 +58,9 @@ pub calls-are-runs : CallsAreRuns
 calls-are-runs frames = (λ R. (relay-run R frames, relay-answers R frames), λ R. (server-run R frames, server-answers R frames))
 
 pub answers-as-ledger : AnswersAsLedger
-answers-as-ledger = ledger-run
+answers-as-ledger senders known R sixty-four frames =
+    let (answers, round) = ledger-run senders known R sixty-four frames in
+    (answers, round, ledger-give senders known R sixty-four frames)
 
 pub written-is-read : WrittenIsRead
 written-is-read before P K out lent e l =

@@ -1,5 +1,7 @@
 -- The demands, sentence by sentence. A statement is a type, and proofs/Demands has something of each. The promises of the code name the same definitions:
--- the vet's answer is `verdict`, an upload `uploadOf`, a round after some calls `runOf`, and so on.
+-- the vet's answer is `verdict`, an upload `uploadOf`, a round after some calls `runOf`, and so on. What stands in quotation marks is the papers', letter by
+-- letter: the customer's demands, and document 01. The papers' meter, gateway and desk are our user, relay and server; gang, watcher and sight are coalition,
+-- observer and view; key block and key tape are source key and key stream.
 use Prim.Native.Nat.{ℕ, suc, _+_, _-_, _*_, _%_, _≤_, _<_}
 use mathlib.Core.Path.{_≡_}
 use mathlib.Core.Logic.{_↔_}
@@ -7,7 +9,7 @@ use mathlib.Core.Bool.{Bool, true}
 use mathlib.Core.List.{List, [], _++_}
 use lib.ListN.{length, take, drop}
 use Rattle.refusals.specs.Codes.{accepted, firstOf, ifAccepted}
-use Rattle.matrices.specs.Linear.{at, All}
+use Rattle.matrices.specs.Linear.{at}
 use Rattle.secrecy.specs.Lists.{tab}
 use Rattle.secrecy.specs.Counts.{sumTo}
 use Rattle.secrecy.specs.Model.{Pool, reading, key, upload, relaySum, total, ZeroSum, view}
@@ -22,9 +24,9 @@ use Rattle.masking.specs.Blocks.{uploadOf, blockCode, unmaskAfter}
 use Rattle.rounds.specs.declared.Round.{Round}
 use Rattle.rounds.specs.declared.RelayRound.{RelayRound}
 use Rattle.rounds.specs.declared.ServerRound.{ServerRound}
-use Rattle.rounds.specs.Ledger.{Frame}
+use Rattle.rounds.specs.Ledger.{Frame, Heard}
 use Rattle.rounds.specs.Rounds.{oneOf, openChecks, opened, stateChecks, after, giveCode, sumsAfter, answersOf, runOf}
-use Rattle.rounds.specs.Rounds.{ledgerAnswers, ledgerOf, everyone, Carries}
+use Rattle.rounds.specs.Rounds.{ledgerAnswers, ledgerOf, ledgerGiveCode, ledgerSums}
 use Rattle.rounds.specs.Rounds.{relayRound, relayKnown, relayRun, relayAnswers, serverRound, serverRun, serverAnswers}
 use Rattle.records.specs.Records.{recordOf, planRead, tableRead, start, readVerdict, writeVerdict}
 use Rattle.streams.specs.Streams.{drawn, positionAfterAll, symbolsDrawn, placesDrawn}
@@ -39,11 +41,11 @@ module _ (P : Plan) (K : List ℕ) (L : ℕ) (W N : List ℕ) where
   abbrev keyOf : ℕ → List ℕ
   keyOf i = take L (drop (i * L) (keysOf P K L N))
 
-  -- "Keys .. equal source document 000's equations modulo the prime": (22)
+  -- "Keys, uploads, gateway sums and the total equal document 000's equations modulo the prime." The keys, (22):
   abbrev pub KeysAre : Type 0
   KeysAre = (i : ℕ) → i < usersOf P → keyOf i ≡ tab L (key pool N i)
 
-  -- "uploads": (25)
+  -- the uploads, (25):
   abbrev pub UploadsAre : Type 0
   UploadsAre =
       0 < P .q → (i : ℕ) → i < usersOf P
@@ -68,46 +70,45 @@ module _ (P : Plan) (K : List ℕ) (L : ℕ) (W N : List ℕ) where
         → (giveCode senders known (runOf senders known opening frames) out ≡ accepted)
         × (sumsAfter senders known (runOf senders known opening frames) out ≡ tab L f)
 
-    -- relay u, from 0, gets any frames, in any order; those that count carry their senders' uploads, and everyone is counted
-    pub record Heard (u : ℕ) (frames : List Frame) : Type 0 where
-      pub carried : All (Carries (P .size) (oneOf (P .clusters) (suc u)) opening (sent u)) frames
-      pub full : everyone (P .size) (oneOf (P .clusters) (suc u)) opening frames ≡ true
+    -- relay u, from 0, gets any frames, in any order: of those that it counted each carries its sender's upload, and everyone's is among them. Nothing is asked
+    -- of a frame that it did not count
+    abbrev pub Uploaded : ℕ → List Frame → Type 0
+    Uploaded u frames = Heard (P .size) (sent u) (ledgerOf (P .size) (oneOf (P .clusters) (suc u)) opening [] frames)
 
-    -- "relay sums": (26)
+    -- the relay sums, (26):
     abbrev pub RelaySumsAre : Type 0
     RelaySumsAre =
-        (u : ℕ) (frames : List Frame) → opens (oneOf (P .clusters) (suc u)) → Heard u frames
+        (u : ℕ) (frames : List Frame) → opens (oneOf (P .clusters) (suc u)) → Uploaded u frames
         → gives (P .size) (oneOf (P .clusters) (suc u)) frames (relaySum pool L W N u)
 
-    -- what relay s, from 1, holds after the frames that it gets
+    -- what relay s, from 1, holds after the frames that it got
     abbrev relayed : (ℕ → List Frame) → ℕ → List ℕ
-    relayed heard s = take L (runOf (P .size) (oneOf (P .clusters) s) opening (heard (s - 1)) .sums)
+    relayed got s = take L (runOf (P .size) (oneOf (P .clusters) s) opening (got (s - 1)) .sums)
 
-    -- each relay gets such frames, and the server any frames, in any order; those that count carry what the relays hold, and every relay is counted
-    pub record AllHeard (heard : ℕ → List Frame) (frames : List Frame) : Type 0 where
-      pub relays : (u : ℕ) → u < P .clusters → Heard u (heard u)
-      pub carried : All (Carries (P .clusters) true opening (relayed heard)) frames
-      pub full : everyone (P .clusters) true opening frames ≡ true
+    -- each relay gets such frames, and the server any frames, in any order: of those that it counted each carries what its relay holds, and every relay's is
+    -- among them
+    pub record AllHeard (got : ℕ → List Frame) (frames : List Frame) : Type 0 where
+      pub uploads : (u : ℕ) → u < P .clusters → Uploaded u (got u)
+      pub sums : Heard (P .clusters) (relayed got) (ledgerOf (P .clusters) true opening [] frames)
 
-    -- "the total": the sum of the relay sums, whatever the table
+    -- the total, the sum of the relay sums, whatever the table:
     abbrev pub TotalIs : Type 0
     TotalIs =
-        opens true → (heard : ℕ → List Frame) (frames : List Frame) → AllHeard heard frames
+        opens true → (got : ℕ → List Frame) (frames : List Frame) → AllHeard got frames
         → gives (P .clusters) true frames (λ p. sumTo (P .clusters) (λ u. relaySum pool L W N u p) % P .q)
 
-    -- "When one key block under a zero-sum table masks each user once, the total is the sum of the readings modulo the prime, in whatever order frames
-    -- arrive"
+    -- "When one key block under a zero-sum table masks each meter once, the total is the sum of the readings modulo the prime, in whatever order frames arrive"
     abbrev pub TotalIsSum : Type 0
     TotalIsSum =
         ZeroSum pool → opens true
-        → (heard : ℕ → List Frame) (frames : List Frame) → AllHeard heard frames
+        → (got : ℕ → List Frame) (frames : List Frame) → AllHeard got frames
         → gives (P .clusters) true frames (total pool L W)
 
 -- the key table of a plan that the vet accepts is a zero-sum table
 abbrev pub AcceptedIsZeroSum : Type 0
 AcceptedIsZeroSum = (P : Plan) (K : List ℕ) → accepted ≡ verdict P K → ZeroSum (poolOf P K)
 
--- "taking a key off its upload gives the reading back": where a block W and a key Z are uploaded, taking the key off what is sent is not refused, and writes W
+-- "taking a key off its upload gives the reading back." Where a block W and a key Z are uploaded, taking the key off what is sent is not refused, and writes W:
 abbrev pub Unmasks : Type 0
 Unmasks =
     (q L : ℕ) (W Z out back : List ℕ) → accepted ≡ blockCode q L W Z out → length back ≡ L
@@ -116,8 +117,9 @@ Unmasks =
 -- ---- demand 3: a plan P with key table K
 
 module _ (P : Plan) (K : List ℕ) where
-  -- "For any accepted plan, any coalition up to its limit, any observer (one relay, or the server), any block length and any view: every two sets of readings
-  -- that agree on the coalition and, for the server, on the total, have the same number of key blocks that show that view."
+  -- "Take any accepted plan, any gang of meters up to its limit, any watcher, which is one gateway or the desk, any block length and any sight. Every two sets
+  -- of readings that agree on the gang's members and, where the watcher is the desk, on the total modulo the prime, have the same number of key blocks that
+  -- show the watcher that sight in a round."
   abbrev pub EqualNumbers : Type 0
   EqualNumbers =
       accepted ≡ verdict P K
@@ -127,14 +129,14 @@ module _ (P : Plan) (K : List ℕ) where
       → (s : List ℕ)
       → number (P .q) (P .rate) (view (poolOf P K) g w) L W s ≡ number (P .q) (P .rate) (view (poolOf P K) g w) L W′ s
 
-  -- "A plan that passes the other checks is refused as leaking exactly when, for some coalition, observer and block length, some such pair has unequal
-  -- numbers for some view"
+  -- "A plan that passes the other checks is refused as leaking exactly when, for some gang, watcher and block length, some such pair of sets has unequal
+  -- numbers for some sight"
   abbrev pub RefusedIffLeaks : Type 0
   RefusedIffLeaks =
       accepted ≡ firstOf (otherChecks P K)
       → _≡_ {A = ℕ} (verdict P K .number) 7 ↔ ((g : ℕ) × (w : ℕ) × InWalk P g w × PairLeak (poolOf P K) g w)
 
-  -- "the refusal names the first such coalition and observer"
+  -- "the refusal names the first gang and watcher for which that is so."
   abbrev pub NamesFirst : Type 0
   NamesFirst =
       accepted ≡ firstOf (otherChecks P K)
@@ -155,12 +157,16 @@ CallsAreRuns =
     → (serverRun R frames ≡ serverRound (runOf (R .round .clusters) true (R .round) frames))
     × (serverAnswers R frames ≡ answersOf (R .round .clusters) true (R .round) frames))
 
--- "A round answers as a roll of names and a running sum would": for every state that is handed in, good or bad, and any frames, of so many senders
+-- "A round answers as a roll of names and a running sum would": for every state that is handed in, good or bad, and any frames, of so many senders: the
+-- answers and the round after them, and then, into any lent buffer, the answer when the sums are asked for and what the buffer holds
 abbrev pub AnswersAsLedger : Type 0
 AnswersAsLedger =
     (senders : ℕ) (known : Bool) (R : Round) → length (R .sums) ≡ 64 → (frames : List Frame)
     → (answersOf senders known R frames ≡ ledgerAnswers senders known R [] frames)
     × (runOf senders known R frames ≡ ifAccepted (firstOf (stateChecks senders known R)) (after R (ledgerOf senders known R [] frames)) R)
+    × ((out : List ℕ)
+    → (giveCode senders known (runOf senders known R frames) out ≡ ledgerGiveCode senders known R (ledgerOf senders known R [] frames) out)
+    × (sumsAfter senders known (runOf senders known R frames) out ≡ ledgerSums senders known R (ledgerOf senders known R [] frames) out))
 
 -- "writing then reading returns the plan": whatever stands before the record
 abbrev pub WrittenIsRead : Type 0
@@ -182,7 +188,7 @@ abbrev pub DrawnOnce : Type 0
 DrawnOnce =
     (stream : List ℕ) (position : ℕ) (draws : List (ℕ × List ℕ))
     → (symbolsDrawn stream position draws ≡ drawn stream position (positionAfterAll stream position draws - position))
-    × (position ≤ length stream → length (symbolsDrawn stream position draws) ≡ length (placesDrawn stream position draws))
+    × (length (symbolsDrawn stream position draws) ≡ length (placesDrawn stream position draws))
     × ((k : ℕ) → k < length (placesDrawn stream position draws)
     → at (symbolsDrawn stream position draws) k ≡ at stream (at (placesDrawn stream position draws) k))
     × ((i j : ℕ) → i < length (placesDrawn stream position draws) → j < length (placesDrawn stream position draws)

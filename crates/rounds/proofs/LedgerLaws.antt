@@ -25,7 +25,7 @@ use Rattle.refusals.proofs.Orders.{rest-decides}
 use Rattle.rounds.specs.declared.Round.{Round}
 use Rattle.rounds.specs.Ledger.{Frame, named, bitsOf, countedAt}
 use Rattle.arithmetic.specs.Bits.{hasBit}
-use Rattle.rounds.specs.Rounds.{oneOf, sumsFit, stateChecks, hasReported, after, frameChecks, giveChecks, stepCode, stepped, answersOf, runOf, noted, ledgerAnswers, ledgerOf}
+use Rattle.rounds.specs.Rounds.{oneOf, sumsFit, stateChecks, hasReported, after, frameChecks, giveChecks, stepCode, stepped, giveCode, sumsAfter, answersOf, runOf, noted, ledgerAnswers, ledgerOf, ledgerGiveCode, ledgerSums}
 use Rattle.rounds.proofs.CheckLaws.{Good, good-state, Passed, frame-known}
 use Rattle.rounds.proofs.ReportedLaws.{true-not-false, bit-added, added-below}
 use Rattle.rounds.proofs.StepLaws.{all-cong, or-none, past-zero}
@@ -299,17 +299,30 @@ module _ (senders : ℕ) (known : Bool) (R : Round) where
             let (a, r, l) = idle n frames in
             (a, r ∙ sym (ap (λ (t : Bool). cond t (after R (ledgerOf senders known R [] frames)) R) n))
 
-    -- the answer when the sums are wanted after the frames
-    pub ledger-give : (out : List ℕ) → firstOf (giveChecks senders known (runOf senders known R frames) [] out) ≡ firstOf (giveChecks senders known R (ledgerOf senders known R [] frames) out)
+    -- what is answered when the sums are wanted after the frames, and what the lent buffer holds then
+    pub ledger-give : (out : List ℕ)
+        → (giveCode senders known (runOf senders known R frames) out ≡ ledgerGiveCode senders known R (ledgerOf senders known R [] frames) out)
+        × (sumsAfter senders known (runOf senders known R frames) out ≡ ledgerSums senders known R (ledgerOf senders known R [] frames) out)
     ledger-give out = go (eqb (firstOf (stateChecks senders known R) .number) 0) refl
       where
         go : (t : Bool) → eqb (firstOf (stateChecks senders known R) .number) 0 ≡ t
-            → firstOf (giveChecks senders known (runOf senders known R frames) [] out) ≡ firstOf (giveChecks senders known R (ledgerOf senders known R [] frames) out)
+            → (giveCode senders known (runOf senders known R frames) out ≡ ledgerGiveCode senders known R (ledgerOf senders known R [] frames) out)
+            × (sumsAfter senders known (runOf senders known R frames) out ≡ ledgerSums senders known R (ledgerOf senders known R [] frames) out)
         go true n =
             let e : accepted ≡ firstOf (stateChecks senders known R) = number-zero (stateChecks senders known R) tt n in
             let (a, r, s) = good-run e sixty-four frames in
-            ap (λ (X : Round). firstOf (giveChecks senders known X [] out)) r ∙ give-same e (ledgerOf senders known R [] frames) s out
+            let same = give-same e (ledgerOf senders known R [] frames) s out in (
+              ap (λ (X : Round). giveCode senders known X out) r ∙ same,
+              ap (λ (X : Round). sumsAfter senders known X out) r
+                  ∙ ap (λ (c : Code). ifAccepted c (take (R .length) (after R (ledgerOf senders known R [] frames) .sums)) out) same,
+            )
         go false n =
             let (a, r, l) = idle n frames in
-            ap (λ (X : Round). firstOf (giveChecks senders known X [] out)) r
-            ∙ sym (ap (λ (x : List Frame). firstOf (giveChecks senders known R x out)) l)
+            let here = refused-decides (stateChecks senders known R) (drop 5 (giveChecks senders known R [] out)) n in
+            let no : eqb (giveCode senders known R out .number) 0 ≡ false = ap (λ (c : Code). eqb (c .number) 0) here ∙ n in (
+              ap (λ (X : Round). giveCode senders known X out) r ∙ sym (ap (λ (x : List Frame). ledgerGiveCode senders known R x out) l),
+              ap (λ (X : Round). sumsAfter senders known X out) r
+                  ∙ ap (λ (t : Bool). cond t (take (R .length) (R .sums)) out) no
+                  ∙ sym (ap (λ (t : Bool). cond t (take (R .length) (after R [] .sums)) out) no)
+                  ∙ sym (ap (λ (x : List Frame). ledgerSums senders known R x out) l),
+            )

@@ -1,5 +1,5 @@
--- A round from its opening: once everyone has reported, its sums are the sums of everyone's block, in whatever order the frames came, however often,
--- and with whatever bad or late frames among them.
+-- A round from its opening: once everyone is counted, its sums are the sums of everyone's block, in whatever order the frames came, however often, and with
+-- whatever bad, late or forged frames among them that were not counted.
 use Prim.Native.Nat.{ℕ, zero, suc, _+_, _-_, _%_, _^_, _≤_, _<_}
 use mathlib.Core.Path.{_≡_, refl, sym, ap, ap₂, _∙_, subst}
 use mathlib.Core.Bool.{Bool, true, false, cond, not, _&&_, _||_}
@@ -15,6 +15,7 @@ use lib.Seq.{getD-take, getD-drop, length-take-le}
 use borrow.Author.Tests.{not-false, eq-eqb, ne-eqb, lt-ltb}
 use Rattle.refusals.specs.Codes.{code, accepted, firstOf}
 use Rattle.refusals.proofs.CodeLaws.{none-holds, accepted-takes}
+use Rattle.arithmetic.specs.Search.{allTo}
 use Rattle.arithmetic.specs.Primes.{allBelow}
 use Rattle.arithmetic.proofs.Searches.{T→true, true→T, all-at}
 use Rattle.arithmetic.proofs.PrimeLaws.{prime-pos, at-below}
@@ -22,11 +23,11 @@ use Rattle.matrices.specs.Linear.{at, All, zeros}
 use Rattle.secrecy.specs.Lists.{tab}
 use Rattle.secrecy.specs.Counts.{sumTo}
 use Rattle.secrecy.proofs.Sums.{sum-cong, sum-zero}
-use Rattle.secrecy.proofs.ListLaws.{at-tab, tab-at, length-tab}
-use Rattle.refusals.proofs.Orders.{first-accepts, rest-decides}
+use Rattle.secrecy.proofs.ListLaws.{at-tab, tab-at, tab-cong, length-tab}
+use Rattle.refusals.proofs.Orders.{rest-decides}
 use Rattle.rounds.specs.declared.Round.{Round}
-use Rattle.rounds.specs.Ledger.{Frame, named, countedAt}
-use Rattle.rounds.specs.Rounds.{sumsFit, openChecks, opened, stateChecks, hasReported, frameChecks, giveChecks, stepCode, giveCode, sumsAfter, runOf, noted, ledgerOf, everyone, Carries}
+use Rattle.rounds.specs.Ledger.{Frame, named, countedAt, everyone, Carries, Heard}
+use Rattle.rounds.specs.Rounds.{sumsFit, openChecks, opened, after, stateChecks, hasReported, frameChecks, giveChecks, giveCode, sumsAfter, runOf, noted, ledgerOf}
 use Rattle.rounds.proofs.CheckLaws.{Opening, opening-known, Passed, frame-known}
 use Rattle.rounds.proofs.ReportedLaws.{no-bits}
 use Rattle.rounds.proofs.StepLaws.{all-cong, or-none}
@@ -79,6 +80,96 @@ zeros-fit q L m pos =
     ap₂ _&&_ (zeros-below q m pos (take L (replicate m 0)) (take-zeros L m))
     (zeros-below 1 m (omega arith) (drop L (replicate m 0)) (λ i. getD-drop L (replicate m 0) i 0 ∙ zeros-at m (L + i)))
 
+all-front : {A : Type 0} (P : A → Type 0) (l : List A) (x : A) → All P (l ++ (x ∷ [])) → All P l × P x
+all-front P [] x a = (tt, a .0)
+all-front P (y ∷ l) x a =
+    let (front, last) = all-front P l x (a .1) in
+    ((a .0, front), last)
+
+-- a ledger that names each sender once: whatever their blocks are, what was counted is the blocks of those who are named
+abbrev pub Tidy : ℕ → List Frame → Type 0
+Tidy senders ledger =
+    (B : ℕ → List ℕ) → All (Carries B) ledger → (p : ℕ) → countedAt ledger p ≡ sumTo senders (λ v. cond (named ledger (suc v)) (at (B (suc v)) p) 0)
+
+module _ (senders : ℕ) where
+  pub tidy-none : Tidy senders []
+  unfolding countedAt named
+  tidy-none B c p = sym (sum-zero senders (λ v. 0) (λ k l. refl))
+
+  pub tidy-more : (ledger : List Frame) (f : Frame) → Tidy senders ledger → 1 ≤ f .sender → f .sender ≤ senders → named ledger (f .sender) ≡ false → Tidy senders (ledger ++ (f ∷ []))
+  tidy-more ledger f tidy some few new B c p =
+      let i : ℕ = f .sender - 1 in
+      let s : suc i ≡ f .sender = omega arith in
+      let out : named ledger (suc i) ≡ false = ap (named ledger) s ∙ new in
+      let (front, carries) = all-front (Carries B) ledger f c in
+      counted-more ledger f p
+      ∙ ap₂ _+_ (tidy B front p) (ap (λ (l : List ℕ). at l p) carries ∙ ap (λ (n : ℕ). at (B n) p) (sym s))
+      ∙ sym
+      (sum-more senders (λ v. named ledger (suc v)) (λ v. named (ledger ++ (f ∷ [])) (suc v)) (λ v. at (B (suc v)) p) i (omega arith) out
+      (named-more ledger f (suc i) ∙ ap₂ _||_ out (eq-eqb (f .sender) (suc i) (sym s)))
+      (λ k l ne. named-more ledger f (suc k) ∙ ap (λ (t : Bool). named ledger (suc k) || t) (ne-eqb (f .sender) (suc k) (λ e. ne (omega arith))) ∙ or-none (named ledger (suc k))))
+
+  -- the order does not matter: where the same senders are counted, each with the same block, so is the same
+  pub order-free : (B : ℕ → List ℕ) (a b : List Frame) → Tidy senders a → Tidy senders b → All (Carries B) a → All (Carries B) b
+      → ((s : ℕ) → named a s ≡ named b s) → (p : ℕ) → countedAt a p ≡ countedAt b p
+  order-free B a b tidy tidy′ c c′ same p =
+      tidy B c p
+      ∙ sum-cong senders (λ v. cond (named a (suc v)) (at (B (suc v)) p) 0) (λ v. cond (named b (suc v)) (at (B (suc v)) p) 0)
+      (λ v l. ap (λ (t : Bool). cond t (at (B (suc v)) p) 0) (same (suc v)))
+      ∙ sym (tidy′ B c′ p)
+
+  -- everyone is counted
+  pub heard-counted : (B : ℕ → List ℕ) (ledger : List Frame) → Tidy senders ledger → Heard senders B ledger → (p : ℕ) → countedAt ledger p ≡ sumTo senders (λ v. at (B (suc v)) p)
+  heard-counted B ledger tidy h p =
+      tidy B (h .carried) p
+      ∙ sum-cong senders (λ v. cond (named ledger (suc v)) (at (B (suc v)) p) 0) (λ v. at (B (suc v)) p)
+      (λ v l. ap (λ (t : Bool). cond t (at (B (suc v)) p) 0) (T→true (named ledger (suc v)) (all-at senders (λ i. named ledger (suc i)) (true→T (everyone senders ledger) (h .full)) v l)))
+
+-- ---- an opened round and a ledger
+
+module _ (clusters size q L number : ℕ) where
+  -- nobody had reported, so that who has is who is named
+  pub heard-named : (ledger : List Frame) (s : ℕ) → hasReported (opened clusters size q L number) ledger s ≡ named ledger s
+  heard-named ledger s = ap (λ (t : Bool). t || named ledger s) (no-bits (s - 1))
+
+  pub full-named : (senders : ℕ) (ledger : List Frame)
+      → allTo senders (λ i. hasReported (opened clusters size q L number) ledger (suc i)) ≡ everyone senders ledger
+  full-named senders ledger =
+      all-cong senders (λ i. hasReported (opened clusters size q L number) ledger (suc i)) (λ i. named ledger (suc i)) (λ i l. heard-named ledger (suc i))
+
+  -- the sums were 0, so that they are what was counted
+  pub counted-block : L ≤ 64 → (ledger : List Frame) → take L (after (opened clusters size q L number) ledger .sums) ≡ tab L (λ p. countedAt ledger p % q)
+  counted-block few ledger =
+      let S : List ℕ = after (opened clusters size q L number) ledger .sums in
+      sym
+      (tab-at L (λ p. countedAt ledger p % q) (take L S) (length-take-le L S (omega (arith, length-tab 64 entry)))
+      (λ k h.
+      sym
+      (getD-take L S k 0 h
+      ∙ at-tab 64 entry k (omega arith)
+      ∙ ap (λ (t : Bool). cond t ((at (zeros 64) k + countedAt ledger k) % q) 0) (lt-ltb k L h)
+      ∙ ap (λ (z : ℕ). (z + countedAt ledger k) % q) (zeros-at 64 k)
+      ∙ ap (λ (z : ℕ). z % q) (zero-add (countedAt ledger k)))))
+    where
+      entry : ℕ → ℕ
+      entry k = cond (ltb k L) ((at (zeros 64) k + countedAt ledger k) % q) 0
+
+  -- and once everyone is counted they are the sums of everyone's block
+  pub heard-block : L ≤ 64 → (senders : ℕ) (B : ℕ → List ℕ) (ledger : List Frame) → Tidy senders ledger → Heard senders B ledger
+      → take L (after (opened clusters size q L number) ledger .sums) ≡ tab L (λ p. sumTo senders (λ v. at (B (suc v)) p) % q)
+  heard-block few senders B ledger tidy h =
+      counted-block few ledger
+      ∙ tab-cong L (λ p. countedAt ledger p % q) (λ p. sumTo senders (λ v. at (B (suc v)) p) % q)
+      (λ p l. ap (λ (z : ℕ). z % q) (heard-counted senders B ledger tidy h p))
+
+-- the answer when sums are wanted
+pub turn-given : (a b : Bool) → cond (not a) (code 12) (cond (not b) (code 4) accepted) ≡ cond a (cond b accepted (code 4)) (code 12)
+turn-given true true = refl
+turn-given true false = refl
+turn-given false b = refl
+
+-- ---- frames into an opened round
+
 module _ (senders : ℕ) (known : Bool) (clusters size q L number : ℕ) (pass : accepted ≡ firstOf (openChecks clusters size q L known)) where
   abbrev R : Round
   R = opened clusters size q L number
@@ -100,124 +191,54 @@ module _ (senders : ℕ) (known : Bool) (clusters size q L number : ℕ) (pass :
         zeros-fit q L 64 (prime-pos (known-opening .prime)),
       ))
 
-  -- nobody had reported, so that who has is who is named
-  heard-named : (ledger : List Frame) (s : ℕ) → hasReported R ledger s ≡ named ledger s
-  heard-named ledger s = ap (λ (t : Bool). t || named ledger s) (no-bits (s - 1))
+  tidy-run : (frames ledger : List Frame) → Tidy senders ledger → Tidy senders (ledgerOf senders known R ledger frames)
+  unfolding ledgerOf
+  tidy-run [] ledger tidy = tidy
+  tidy-run (f ∷ frames) ledger tidy =
+      tidy-run frames (noted senders known R ledger f) (step (eqb (firstOf (frameChecks senders known R ledger f) .number) 0) refl)
+    where
+      step : (t : Bool) → eqb (firstOf (frameChecks senders known R ledger f) .number) 0 ≡ t → Tidy senders (noted senders known R ledger f)
+      step true n =
+          let p : Passed senders R ledger f = frame-known senders known R ledger f (number-zero (frameChecks senders known R ledger f) tt n) in
+          subst (Tidy senders) (sym (ap (λ (t : Bool). cond t (ledger ++ (f ∷ [])) ledger) n))
+          (tidy-more senders ledger f tidy (p .sender-some) (p .sender-few) (sym (heard-named clusters size q L number ledger (f .sender)) ∙ p .new))
+      step false n = subst (Tidy senders) (sym (ap (λ (t : Bool). cond t (ledger ++ (f ∷ [])) ledger) n)) tidy
 
-  -- what is counted now would be counted on an empty ledger
-  would-count : (ledger : List Frame) (f : Frame) → accepted ≡ firstOf (frameChecks senders known R ledger f) → stepCode senders known R f ≡ accepted
-  unfolding named
-  would-count ledger f e =
-      let front = take 9 (frameChecks senders known R ledger f) in
-      let own : accepted ≡ firstOf front = first-accepts front (drop 9 (frameChecks senders known R ledger f)) tt e in
-      sym
-      (sym (ap (λ (t : Bool). cond t (code 11) accepted) (heard-named [] (f .sender)))
-      ∙ rest-decides front (drop 9 (frameChecks senders known R [] f)) tt own)
+  module _ (frames : List Frame) where
+    abbrev counted : List Frame
+    counted = ledgerOf senders known R [] frames
 
-  run-length : (frames : List Frame) → length (take L (runOf senders known R frames .sums)) ≡ L
-  run-length frames =
-      let (a, r, s) = good-run senders known R opened-state (length-zeros 64) frames in
-      let S : List ℕ = runOf senders known R frames .sums in
-      let sixty-four : length S ≡ 64 = ap (λ (X : Round). length (X .sums)) r ∙ length-tab 64 _ in
-      let few : L ≤ 64 = known-opening .few-length in
-      length-take-le L S (omega arith)
+    run-is : runOf senders known R frames ≡ after R counted
+    run-is =
+        let (a, r, s) = good-run senders known R opened-state (length-zeros 64) frames in
+        r
 
-  -- ---- everyone's block is a given one
-
-  module _ (B : ℕ → List ℕ) where
-    -- what was counted is the blocks of those who are named
-    abbrev Kept : List Frame → Type 0
-    Kept ledger = (p : ℕ) → countedAt ledger p ≡ sumTo senders (λ v. cond (named ledger (suc v)) (at (B (suc v)) p) 0)
-
-    kept-none : Kept []
-    unfolding countedAt named
-    kept-none p = sym (sum-zero senders (λ v. 0) (λ k l. refl))
-
-    kept-more : (ledger : List Frame) (f : Frame) → Kept ledger → Passed senders R ledger f → f .block ≡ B (f .sender) → Kept (ledger ++ (f ∷ []))
-    kept-more ledger f kept passed carries p =
-        let i : ℕ = f .sender - 1 in
-        let some : 1 ≤ f .sender = passed .sender-some in
-        let few : f .sender ≤ senders = passed .sender-few in
-        let s : suc i ≡ f .sender = omega arith in
-        let out : named ledger (suc i) ≡ false = ap (named ledger) s ∙ sym (heard-named ledger (f .sender)) ∙ passed .new in
-        counted-more ledger f p
-        ∙ ap₂ _+_ (kept p) (ap (λ (l : List ℕ). at l p) carries ∙ ap (λ (n : ℕ). at (B n) p) (sym s))
-        ∙ sym
-        (sum-more senders (λ v. named ledger (suc v)) (λ v. named (ledger ++ (f ∷ [])) (suc v)) (λ v. at (B (suc v)) p) i (omega arith) out
-        (named-more ledger f (suc i) ∙ ap₂ _||_ out (eq-eqb (f .sender) (suc i) (sym s)))
-        (λ k l ne. named-more ledger f (suc k) ∙ ap (λ (t : Bool). named ledger (suc k) || t) (ne-eqb (f .sender) (suc k) (λ e. ne (omega arith))) ∙ or-none (named ledger (suc k))))
-
-    kept-run : (frames ledger : List Frame) → All (Carries senders known R B) frames → Kept ledger → Kept (ledgerOf senders known R ledger frames)
-    unfolding ledgerOf
-    kept-run [] ledger c kept = kept
-    kept-run (f ∷ frames) ledger c kept =
-        kept-run frames (noted senders known R ledger f) (c .1) (step (eqb (firstOf (frameChecks senders known R ledger f) .number) 0) refl)
-      where
-        step : (t : Bool) → eqb (firstOf (frameChecks senders known R ledger f) .number) 0 ≡ t → Kept (noted senders known R ledger f)
-        step true n =
-            let e : accepted ≡ firstOf (frameChecks senders known R ledger f) = number-zero (frameChecks senders known R ledger f) tt n in
-            subst Kept (sym (ap (λ (t : Bool). cond t (ledger ++ (f ∷ [])) ledger) n))
-            (kept-more ledger f kept (frame-known senders known R ledger f e) (c .0 (would-count ledger f e)))
-        step false n = subst Kept (sym (ap (λ (t : Bool). cond t (ledger ++ (f ∷ [])) ledger) n)) kept
-
-    module _ (frames : List Frame) (carry : All (Carries senders known R B) frames) (full : everyone senders known R frames ≡ true) where
-      -- the sums are the sums of everyone's block
-      pub full-sums : (p : ℕ) → p < L → at (runOf senders known R frames .sums) p ≡ sumTo senders (λ v. at (B (suc v)) p) % q
-      full-sums p h =
-          let ledger : List Frame = ledgerOf senders known R [] frames in
-          let (a, r, s) = good-run senders known R opened-state (length-zeros 64) frames in
-          let few : L ≤ 64 = known-opening .few-length in
-          ap (λ (X : Round). at (X .sums) p) r
-          ∙ at-tab 64 (λ k. cond (ltb k L) ((at (zeros 64) k + countedAt ledger k) % q) 0) p (omega arith)
-          ∙ ap (λ (t : Bool). cond t ((at (zeros 64) p + countedAt ledger p) % q) 0) (lt-ltb p L h)
-          ∙ ap (λ (z : ℕ). (z + countedAt ledger p) % q) (zeros-at 64 p)
-          ∙ ap (λ (z : ℕ). z % q)
-          (zero-add (countedAt ledger p)
-          ∙ kept-run frames [] carry kept-none p
-          ∙ sum-cong senders (λ v. cond (named ledger (suc v)) (at (B (suc v)) p) 0) (λ v. at (B (suc v)) p)
-          (λ v l. ap (λ (t : Bool). cond t (at (B (suc v)) p) 0) (T→true (named ledger (suc v)) (all-at senders (λ i. named ledger (suc i)) (true→T (everyone senders known R frames) full) v l))))
-
-      -- and so are those that are given out
-      pub full-block : take L (runOf senders known R frames .sums) ≡ tab L (λ p. sumTo senders (λ v. at (B (suc v)) p) % q)
-      full-block =
-          let S : List ℕ = runOf senders known R frames .sums in
-          sym
-          (tab-at L (λ p. sumTo senders (λ v. at (B (suc v)) p) % q) (take L S) (run-length frames)
-          (λ k h. sym (getD-take L S k 0 h ∙ full-sums k h)))
-
-  -- ---- giving the sums
-
-  module _ (frames : List Frame) (out : List ℕ) where
     -- 12 exactly where not everyone is named on the ledger
-    pub give-code : firstOf (giveChecks senders known (runOf senders known R frames) [] out)
-        ≡ cond (everyone senders known R frames) (cond (eqb (length out) L) accepted (code 4)) (code 12)
-    give-code =
-        let ledger : List Frame = ledgerOf senders known R [] frames in
-        ledger-give senders known R (length-zeros 64) frames out
-        ∙ sym (rest-decides (stateChecks senders known R) (drop 5 (giveChecks senders known R ledger out)) tt opened-state)
-        ∙ ap (λ (t : Bool). cond (not t) (code 12) (cond (not (eqb (length out) L)) (code 4) accepted))
-        (all-cong senders (λ i. hasReported R ledger (suc i)) (λ i. named ledger (suc i)) (λ i l. heard-named ledger (suc i)))
-        ∙ turn (everyone senders known R frames) (eqb (length out) L)
-      where
-        turn : (a b : Bool) → cond (not a) (code 12) (cond (not b) (code 4) accepted) ≡ cond a (cond b accepted (code 4)) (code 12)
-        turn true true = refl
-        turn true false = refl
-        turn false b = refl
+    pub give-code : (out : List ℕ) → giveCode senders known (runOf senders known R frames) out ≡ cond (everyone senders counted) (cond (eqb (length out) L) accepted (code 4)) (code 12)
+    give-code out =
+        ledger-give senders known R (length-zeros 64) frames out .0
+        ∙ sym (rest-decides (stateChecks senders known R) (drop 5 (giveChecks senders known R counted out)) tt opened-state)
+        ∙ ap (λ (t : Bool). cond (not t) (code 12) (cond (not (eqb (length out) L)) (code 4) accepted)) (full-named clusters size q L number senders counted)
+        ∙ turn-given (everyone senders counted) (eqb (length out) L)
 
-  -- everyone's sums are given out, into any buffer of L symbols
-  pub full-given : (B : ℕ → List ℕ) (frames : List Frame) → All (Carries senders known R B) frames → everyone senders known R frames ≡ true
-      → (out : List ℕ) → length out ≡ L
-      → (giveCode senders known (runOf senders known R frames) out ≡ accepted)
-      × (sumsAfter senders known (runOf senders known R frames) out ≡ tab L (λ p. sumTo senders (λ v. at (B (suc v)) p) % q))
-  full-given B frames carry full out room =
-      let X : Round = runOf senders known R frames in
-      let (a, r, s) = good-run senders known R opened-state (length-zeros 64) frames in
-      let told : giveCode senders known X out ≡ accepted =
-      give-code frames out
-      ∙ ap (λ (t : Bool). cond t (cond (eqb (length out) L) accepted (code 4)) (code 12)) full
-      ∙ ap (λ (t : Bool). cond t accepted (code 4)) (eq-eqb (length out) L room) in (
-        told,
-        accepted-takes (giveCode senders known X out) (take (X .length) (X .sums)) out (sym told)
-            ∙ ap (λ (n : ℕ). take n (X .sums)) (ap (λ (Y : Round). Y .length) r)
-            ∙ full-block B frames carry full,
-      )
+    -- the sums are those of everyone's block
+    pub full-block : (B : ℕ → List ℕ) → Heard senders B counted → take L (runOf senders known R frames .sums) ≡ tab L (λ p. sumTo senders (λ v. at (B (suc v)) p) % q)
+    full-block B h =
+        ap (λ (X : Round). take L (X .sums)) run-is
+        ∙ heard-block clusters size q L number (known-opening .few-length) senders B counted (tidy-run frames [] (tidy-none senders)) h
+
+    -- and are given out, into any buffer of L symbols
+    pub full-given : (B : ℕ → List ℕ) → Heard senders B counted → (out : List ℕ) → length out ≡ L
+        → (giveCode senders known (runOf senders known R frames) out ≡ accepted)
+        × (sumsAfter senders known (runOf senders known R frames) out ≡ tab L (λ p. sumTo senders (λ v. at (B (suc v)) p) % q))
+    full-given B h out room =
+        let X : Round = runOf senders known R frames in
+        let told : giveCode senders known X out ≡ accepted =
+        give-code out
+        ∙ ap (λ (t : Bool). cond t (cond (eqb (length out) L) accepted (code 4)) (code 12)) (h .full)
+        ∙ ap (λ (t : Bool). cond t accepted (code 4)) (eq-eqb (length out) L room) in (
+          told,
+          accepted-takes (giveCode senders known X out) (take (X .length) (X .sums)) out (sym told)
+              ∙ ap (λ (n : ℕ). take n (X .sums)) (ap (λ (Y : Round). Y .length) run-is)
+              ∙ full-block B h,
+        )

@@ -1,16 +1,15 @@
 -- Demand 2, from readings to the total: uploads under one source key are added up by the relays, their sums by the server, and where the key table's
--- columns sum to zero the keys cancel. Frames may come in any order, repeated, late or bad.
+-- columns sum to zero the keys cancel. Frames may come in any order, repeated, late, bad or forged: only of those that were counted is anything asked.
 use Prim.Native.Nat.{ℕ, suc, _+_, _-_, _*_, _%_, _<_}
 use mathlib.Core.Path.{_≡_, sym, ap, ap₂, _∙_, subst}
 use mathlib.Core.Bool.{Bool, true, _&&_}
-use mathlib.Core.List.{List}
+use mathlib.Core.List.{List, []}
 use native.Mathlib.Omega.{arith}
 use lib.ListN.{length, take}
-use lib.Seq.{getD-take}
 use borrow.Author.Tests.{le-leb}
 use Rattle.refusals.specs.Codes.{accepted, firstOf}
 use Rattle.arithmetic.proofs.Congruence.{Cong, to-mod, of-eq, of-rem, c-refl, c-trans, c-add}
-use Rattle.matrices.specs.Linear.{at, All}
+use Rattle.matrices.specs.Linear.{at}
 use Rattle.matrices.proofs.Notions.{dotN}
 use Rattle.secrecy.specs.Lists.{tab}
 use Rattle.secrecy.specs.Counts.{sumTo}
@@ -22,9 +21,9 @@ use Rattle.secrecy.proofs.RankCondition.{row}
 use Rattle.secrecy.proofs.PoolForms.{dot-key}
 use Rattle.secrecy.proofs.Clusters.{rows-none}
 use Rattle.rounds.specs.declared.Round.{Round}
-use Rattle.rounds.specs.Ledger.{Frame}
-use Rattle.rounds.specs.Rounds.{oneOf, openChecks, opened, giveCode, sumsAfter, runOf, everyone, Carries}
-use Rattle.rounds.proofs.RoundLaws.{full-sums, full-given}
+use Rattle.rounds.specs.Ledger.{Frame, Heard}
+use Rattle.rounds.specs.Rounds.{oneOf, openChecks, opened, giveCode, sumsAfter, runOf, ledgerOf}
+use Rattle.rounds.proofs.RoundLaws.{full-block, full-given}
 
 module _ (P : Pool) (L : ℕ) (W N : List ℕ) where
   -- ---- the equations
@@ -81,10 +80,10 @@ module _ (P : Pool) (L : ℕ) (W N : List ℕ) where
 
     -- a relay that has heard its whole cluster gives out its relay sums
     pub relay-sums : (known : Bool) → accepted ≡ firstOf (openChecks (P .clusters) (P .size) (P .q) L known) → (u : ℕ) (frames : List Frame)
-        → All (Carries (P .size) known opening (uploaded u)) frames → everyone (P .size) known opening frames ≡ true
+        → Heard (P .size) (uploaded u) (ledgerOf (P .size) known opening [] frames)
         → Gives (P .size) known frames (relaySum P L W N u)
-    relay-sums known pass u frames carry full out room =
-        let (told, sums) = full-given (P .size) known (P .clusters) (P .size) (P .q) L number pass (uploaded u) frames carry full out room in
+    relay-sums known pass u frames heard out room =
+        let (told, sums) = full-given (P .size) known (P .clusters) (P .size) (P .q) L number pass frames (uploaded u) heard out room in
         (told, sums ∙ tab-cong L (λ p. sumTo (P .size) (λ v. at (uploaded u (suc v)) p) % P .q) (relaySum P L W N u) (uploads-add u))
 
     -- what relay s, from 1, holds after these frames
@@ -94,17 +93,16 @@ module _ (P : Pool) (L : ℕ) (W N : List ℕ) where
     -- From the uploads to the total: each relay hears its users' uploads, the server what the relays hold. Whatever else comes, and in whatever order,
     -- once everyone has been heard the server gives out the sums of the relay sums.
     pub server-sums : accepted ≡ firstOf (openChecks (P .clusters) (P .size) (P .q) L true)
-        → (heard : ℕ → List Frame)
-        → ((u : ℕ) → u < P .clusters → All (Carries (P .size) (oneOf (P .clusters) (suc u)) opening (uploaded u)) (heard u))
-        → ((u : ℕ) → u < P .clusters → everyone (P .size) (oneOf (P .clusters) (suc u)) opening (heard u) ≡ true)
-        → (frames : List Frame) → All (Carries (P .clusters) true opening (relayed heard)) frames → everyone (P .clusters) true opening frames ≡ true
+        → (got : ℕ → List Frame)
+        → ((u : ℕ) → u < P .clusters → Heard (P .size) (uploaded u) (ledgerOf (P .size) (oneOf (P .clusters) (suc u)) opening [] (got u)))
+        → (frames : List Frame) → Heard (P .clusters) (relayed got) (ledgerOf (P .clusters) true opening [] frames)
         → Gives (P .clusters) true frames (λ p. sumTo (P .clusters) (λ u. relaySum P L W N u p) % P .q)
-    server-sums pass heard uploads full frames sums all out room =
-        let (told, given) = full-given (P .clusters) true (P .clusters) (P .size) (P .q) L number pass (relayed heard) frames sums all out room in (
+    server-sums pass got uploads frames sums out room =
+        let (told, given) = full-given (P .clusters) true (P .clusters) (P .size) (P .q) L number pass frames (relayed got) sums out room in (
           told,
           given
-              ∙ tab-cong L (λ p. sumTo (P .clusters) (λ u. at (relayed heard (suc u)) p) % P .q) (λ p. sumTo (P .clusters) (λ u. relaySum P L W N u p) % P .q)
-              (λ p h. ap (λ (z : ℕ). z % P .q) (sum-cong (P .clusters) (λ u. at (relayed heard (suc u)) p) (λ u. relaySum P L W N u p) (λ u l. each u p l h))),
+              ∙ tab-cong L (λ p. sumTo (P .clusters) (λ u. at (relayed got (suc u)) p) % P .q) (λ p. sumTo (P .clusters) (λ u. relaySum P L W N u p) % P .q)
+              (λ p h. ap (λ (z : ℕ). z % P .q) (sum-cong (P .clusters) (λ u. at (relayed got (suc u)) p) (λ u. relaySum P L W N u p) (λ u l. each u p l h))),
         )
       where
         listed : (u : ℕ) → u < P .clusters → oneOf (P .clusters) (suc u) ≡ true
@@ -113,20 +111,23 @@ module _ (P : Pool) (L : ℕ) (W N : List ℕ) where
         opens : (u : ℕ) → u < P .clusters → accepted ≡ firstOf (openChecks (P .clusters) (P .size) (P .q) L (oneOf (P .clusters) (suc u)))
         opens u l = subst (λ (t : Bool). accepted ≡ firstOf (openChecks (P .clusters) (P .size) (P .q) L t)) (sym (listed u l)) pass
 
-        each : (u p : ℕ) → u < P .clusters → p < L → at (relayed heard (suc u)) p ≡ relaySum P L W N u p
+        block : (u : ℕ) → u < P .clusters → relayed got (suc u) ≡ tab L (λ p. sumTo (P .size) (λ v. at (uploaded u (suc v)) p) % P .q)
+        block u l =
+            ap (λ (w : ℕ). take L (runOf (P .size) (oneOf (P .clusters) (suc u)) opening (got w) .sums)) (omega arith)
+            ∙ full-block (P .size) (oneOf (P .clusters) (suc u)) (P .clusters) (P .size) (P .q) L number (opens u l) (got u) (uploaded u) (uploads u l)
+
+        each : (u p : ℕ) → u < P .clusters → p < L → at (relayed got (suc u)) p ≡ relaySum P L W N u p
         each u p l h =
-            getD-take L (runOf (P .size) (oneOf (P .clusters) (suc u)) opening (heard (suc u - 1)) .sums) p 0 h
-            ∙ ap (λ (w : ℕ). at (runOf (P .size) (oneOf (P .clusters) (suc u)) opening (heard w) .sums) p) (omega arith)
-            ∙ full-sums (P .size) (oneOf (P .clusters) (suc u)) (P .clusters) (P .size) (P .q) L number (opens u l) (uploaded u) (heard u) (uploads u l) (full u l) p h
+            ap (λ (x : List ℕ). at x p) (block u l)
+            ∙ at-tab L (λ p. sumTo (P .size) (λ v. at (uploaded u (suc v)) p) % P .q) p h
             ∙ uploads-add u p h
 
     -- and with a zero-sum table these are the totals of the readings
     pub readings-to-total : ZeroSum P → accepted ≡ firstOf (openChecks (P .clusters) (P .size) (P .q) L true)
-        → (heard : ℕ → List Frame)
-        → ((u : ℕ) → u < P .clusters → All (Carries (P .size) (oneOf (P .clusters) (suc u)) opening (uploaded u)) (heard u))
-        → ((u : ℕ) → u < P .clusters → everyone (P .size) (oneOf (P .clusters) (suc u)) opening (heard u) ≡ true)
-        → (frames : List Frame) → All (Carries (P .clusters) true opening (relayed heard)) frames → everyone (P .clusters) true opening frames ≡ true
+        → (got : ℕ → List Frame)
+        → ((u : ℕ) → u < P .clusters → Heard (P .size) (uploaded u) (ledgerOf (P .size) (oneOf (P .clusters) (suc u)) opening [] (got u)))
+        → (frames : List Frame) → Heard (P .clusters) (relayed got) (ledgerOf (P .clusters) true opening [] frames)
         → Gives (P .clusters) true frames (total P L W)
-    readings-to-total zs pass heard uploads full frames sums all out room =
-        let (told, given) = server-sums pass heard uploads full frames sums all out room in
+    readings-to-total zs pass got uploads frames sums out room =
+        let (told, given) = server-sums pass got uploads frames sums out room in
         (told, given ∙ tab-cong L (λ p. sumTo (P .clusters) (λ u. relaySum P L W N u p) % P .q) (total P L W) (λ p h. relays-total zs p))

@@ -1,9 +1,11 @@
 -- A round is a ledger: the list of the frames that were counted. Who has reported (document 01: the roll) and the sums are functions of it.
-use Prim.Native.Nat.{ℕ, _+_, _-_, _^_}
-use mathlib.Core.Bool.{Bool, false, _||_}
+use Prim.Native.Nat.{ℕ, suc, _+_, _-_, _^_}
+use mathlib.Core.Path.{_≡_}
+use mathlib.Core.Bool.{Bool, true, false, _||_}
 use mathlib.Core.List.{List, [], _∷_}
 use lib.Dec.{eqb}
-use Rattle.matrices.specs.Linear.{at}
+use Rattle.arithmetic.specs.Search.{allTo}
+use Rattle.matrices.specs.Linear.{at, All}
 
 -- a sender, from 1, a round number and a block of symbols
 pub record Frame : Type 0 where
@@ -28,3 +30,16 @@ bitsOf (f ∷ ledger) = 2 ^ (f .sender - 1) + bitsOf ledger
 unfoldable pub countedAt : List Frame → ℕ → ℕ
 countedAt [] p = 0
 countedAt (f ∷ ledger) p = at (f .block) p + countedAt ledger p
+
+-- is everyone on the ledger?
+abbrev pub everyone : ℕ → List Frame → Bool
+everyone senders ledger = allTo senders (λ i. named ledger (suc i))
+
+-- a frame carries its sender's block
+abbrev pub Carries : (ℕ → List ℕ) → Frame → Type 0
+Carries B f = f .block ≡ B (f .sender)
+
+-- what is asked of the frames that were counted, and of no other that came: each carries its sender's block, and everyone's is among them
+pub record Heard (senders : ℕ) (B : ℕ → List ℕ) (ledger : List Frame) : Type 0 where
+  pub carried : All (Carries B) ledger
+  pub full : everyone senders ledger ≡ true

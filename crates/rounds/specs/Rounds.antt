@@ -2,13 +2,12 @@
 -- in, and the ledger of the frames counted since; an opened round had nobody on its roll and sums of 0, so that it is its ledger alone.
 -- A relay (document 01: gateway) hears the users of its cluster, the server (desk) the relays; all else is said once, for both.
 use Prim.Native.Nat.{ℕ, suc, _+_, _-_, _%_, _^_}
-use mathlib.Core.Path.{_≡_}
 use mathlib.Core.Bool.{Bool, true, cond, not, _&&_, _||_}
 use mathlib.Core.List.{List, [], _∷_, _++_}
 use lib.Dec.{leb, ltb, eqb}
 use lib.ListN.{length, take, drop}
 use Rattle.refusals.specs.declared.Code.{Code}
-use Rattle.refusals.specs.Codes.{code, accepted, firstOf, ifAccepted}
+use Rattle.refusals.specs.Codes.{code, firstOf, ifAccepted}
 use Rattle.arithmetic.specs.Search.{allTo}
 use Rattle.arithmetic.specs.Bits.{hasBit}
 use Rattle.arithmetic.specs.Primes.{isPrime, allBelow}
@@ -140,13 +139,12 @@ module _ (senders : ℕ) (known : Bool) where
   ledgerOf R ledger [] = ledger
   ledgerOf R ledger (f ∷ frames) = ledgerOf R (noted R ledger f) frames
 
-  -- is everyone on the ledger of these frames?
-  abbrev pub everyone : Round → List Frame → Bool
-  everyone R frames = allTo senders (λ i. named (ledgerOf R [] frames) (suc i))
+  -- what is answered when the sums are wanted, and what the lent buffer holds then
+  abbrev pub ledgerGiveCode : Round → List Frame → List ℕ → Code
+  ledgerGiveCode R ledger out = firstOf (giveChecks R ledger out)
 
-  -- a frame that would be counted, were nobody on the ledger yet, carries its sender's block; any other may carry anything
-  abbrev pub Carries : Round → (ℕ → List ℕ) → Frame → Type 0
-  Carries R B f = stepCode R f ≡ accepted → f .block ≡ B (f .sender)
+  abbrev pub ledgerSums : Round → List Frame → List ℕ → List ℕ
+  ledgerSums R ledger out = ifAccepted (ledgerGiveCode R ledger out) (take (R .length) (after R ledger .sums)) out
 
 -- ---- a relay's round: it hears the V users of its cluster, and its own number is one of 1 to U
 

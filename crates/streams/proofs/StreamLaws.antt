@@ -5,8 +5,8 @@ use mathlib.Core.Bool.{Bool, true, false, cond, not}
 use mathlib.Core.List.{List, [], _∷_, _++_}
 use native.Mathlib.Nat.{zero-add, suc-add}
 use native.Mathlib.Omega.{arith}
-use lib.ListN.{length, take, drop}
-use lib.Seq.{take-add, drop-drop}
+use lib.ListN.{length, take, drop, length-drop}
+use lib.Seq.{take-add, drop-drop, length-take-le}
 use lib.Dec.{T, ltb, eqb, eqb→eq}
 use borrow.Author.Tests.{lt-ltb, ltb-false, not-false}
 use Rattle.refusals.specs.Codes.{code, accepted, firstOf}
@@ -15,7 +15,7 @@ use Rattle.arithmetic.proofs.Searches.{true→T}
 use Rattle.matrices.specs.Linear.{at}
 use Rattle.secrecy.specs.Lists.{tab}
 use Rattle.secrecy.proofs.ListLaws.{at-tab, length-tab, tab-cong}
-use Rattle.matrices.proofs.Fronts.{length-part, part-at}
+use Rattle.matrices.proofs.Fronts.{part-at}
 use Rattle.plans.specs.Plans.{lengthFits}
 use Rattle.plans.proofs.PlanBounds.{length-known}
 use Rattle.streams.specs.Streams.{drawChecks, drawCode, drawn, positionAfterAll, symbolsDrawn, placesDrawn}
@@ -75,18 +75,22 @@ module _ (stream : List ℕ) where
       go true later = omega (arith, later (position + draw .0))
       go false later = later position
 
-  -- nor past the stream's end
-  pub draws-within : (position : ℕ) (draws : List (ℕ × List ℕ)) → position ≤ length stream → positionAfterAll stream position draws ≤ length stream
-  draws-within position [] h = h
-  draws-within position (draw ∷ draws) h =
+  -- a run draws no more symbols than there are after its position, wherever that is
+  draws-few : (position : ℕ) (draws : List (ℕ × List ℕ)) → positionAfterAll stream position draws - position ≤ length stream - position
+  draws-few position [] = omega arith
+  draws-few position (draw ∷ draws) =
       go (takes position draw)
       (λ t. drawable stream position (draw .0) (draw .1) (number-accepts (not (lengthFits (draw .0))) (not (eqb (length (draw .1)) (draw .0))) (ltb (length stream - position) (draw .0)) t) .enough)
-      (λ p. draws-within p draws)
+      (λ p. draws-few p draws)
     where
-      go : (b : Bool) → (T b → position + draw .0 ≤ length stream) → ((p : ℕ) → p ≤ length stream → positionAfterAll stream p draws ≤ length stream)
-          → positionAfterAll stream (cond b (position + draw .0) position) draws ≤ length stream
-      go true fits later = later (position + draw .0) (fits tt)
-      go false fits later = later position h
+      go : (b : Bool) → (T b → position + draw .0 ≤ length stream) → ((p : ℕ) → positionAfterAll stream p draws - p ≤ length stream - p)
+          → positionAfterAll stream (cond b (position + draw .0) position) draws - position ≤ length stream - position
+      go true fits later = omega (arith, fits tt, later (position + draw .0), draws-forward (position + draw .0) draws)
+      go false fits later = later position
+
+  -- so that a position is not moved past the stream's end
+  pub draws-within : (position : ℕ) (draws : List (ℕ × List ℕ)) → position ≤ length stream → positionAfterAll stream position draws ≤ length stream
+  draws-within position draws h = omega (arith, draws-few position draws, draws-forward position draws)
 
   -- a run draws the symbols from the first position to the last, in order
   pub draws-give : (position : ℕ) (draws : List (ℕ × List ℕ)) → symbolsDrawn stream position draws ≡ drawn stream position (positionAfterAll stream position draws - position)
@@ -137,10 +141,10 @@ module _ (stream : List ℕ) where
         (l, ap (λ (p : List ℕ). at p k) (draws-consecutive position draws) ∙ at-tab count (λ k. position + k) k l)
 
     -- there are as many places as symbols
-    pub draws-counted : position ≤ length stream → length (symbolsDrawn stream position draws) ≡ length places
-    draws-counted h =
+    pub draws-counted : length (symbolsDrawn stream position draws) ≡ length places
+    draws-counted =
         ap length (draws-give position draws)
-        ∙ length-part count position stream (omega (arith, draws-forward position draws, draws-within position draws h))
+        ∙ length-take-le count (drop position stream) (omega (arith, length-drop position stream, draws-few position draws))
         ∙ sym (ap length (draws-consecutive position draws) ∙ length-tab count (λ k. position + k))
 
     -- each symbol drawn is the stream's at its place
