@@ -1,16 +1,19 @@
 -- What the counts of a plan satisfy, where they are within their bounds.
-use Prim.Native.Nat.{ℕ, _+_, _-_, _*_, _%_, _≤_, _<_}
-use mathlib.Core.Path.{_≡_, refl, ap, _∙_}
-use mathlib.Core.Bool.{true, _&&_}
+use Prim.Native.Nat.{ℕ, _+_, _-_, _*_, _%_, _^_, _≤_, _<_}
+use mathlib.Core.Path.{_≡_, refl, ap, _∙_, subst}
+use mathlib.Core.Bool.{Bool, true, not, _&&_}
+use mathlib.Core.Logic.{_≢_}
 use native.Mathlib.Nat.{mul-le-mul}
 use native.Mathlib.Decide.{decLt}
 use native.Mathlib.Omega.{arith}
-use lib.Dec.{leb, eqb, leb→le, eqb→eq}
+use lib.Dec.{T, leb, eqb, leb→le, eqb→eq}
+use borrow.Author.Tests.{eq-eqb}
 use Rattle.arithmetic.specs.Search.{anyTo, allTo}
 use Rattle.arithmetic.specs.Primes.{Prime}
 use Rattle.arithmetic.proofs.Searches.{T→true, true→T, T-and, any-found, all-at}
+use Rattle.arithmetic.proofs.PrimeLaws.{undivided-prime}
 use Rattle.plans.specs.declared.Plan.{Plan}
-use Rattle.plans.specs.Plans.{usersOf, countsFit, lengthFits, inBounds}
+use Rattle.plans.specs.Plans.{usersOf, countsFit, lengthFits, inBounds, LargestPrime}
 
 pub record Counts (u v t : ℕ) : Type 0 where
   pub some-clusters : 1 ≤ u
@@ -69,8 +72,8 @@ divisible : allTo 14 (λ k. anyTo 20 (λ d. leb 2 d && eqb ((65522 + k) % d) 0))
 unfolding allTo anyTo
 divisible = refl
 
-pub largest-prime : (q : ℕ) → q < 65536 → Prime q → q ≤ 65521
-largest-prime q h p = go (decLt 65521 q)
+none-above : (q : ℕ) → q < 65536 → Prime q → q ≤ 65521
+none-above q h p = go (decLt 65521 q)
   where
     go : Dec (65521 < q) → q ≤ 65521
     go (no n) = omega (arith, n)
@@ -78,3 +81,22 @@ largest-prime q h p = go (decLt 65521 q)
         let (d, few, t) = any-found 20 (λ d. leb 2 d && eqb ((65522 + (q - 65522)) % d) 0) (all-at 14 (λ k. anyTo 20 (λ d. leb 2 d && eqb ((65522 + k) % d) 0)) (true→T _ divisible) (q - 65522) (omega arith)) in
         let (two, none) = T-and (leb 2 d) (eqb ((65522 + (q - 65522)) % d) 0) t in
         absurd (p .none d (leb→le 2 d two) (omega arith) (ap (λ (n : ℕ). n % d) (omega arith) ∙ eqb→eq ((65522 + (q - 65522)) % d) 0 none))
+
+-- and it is a prime: nothing from 2 to its root divides it
+undivided : allTo 254 (λ k. not (eqb (65521 % (2 + k)) 0)) ≡ true
+unfolding allTo
+undivided = refl
+
+pub largest-prime : LargestPrime (2 ^ 16) 65521
+largest-prime =
+    record {
+      prime = undivided-prime 65521 256 (omega arith) (omega arith) (record { none = none });
+      fits = omega arith;
+      largest = none-above;
+    }
+  where
+    none : (e : ℕ) → 2 ≤ e → e < 256 → 65521 % e ≢ 0
+    none e two h divides =
+        let t = all-at 254 (λ k. not (eqb (65521 % (2 + k)) 0)) (true→T _ undivided) (e - 2) (omega arith) in
+        let z : 65521 % (2 + (e - 2)) ≡ 0 = ap (λ (n : ℕ). 65521 % n) (omega arith) ∙ divides in
+        absurd (subst (λ (b : Bool). T (not b)) (eq-eqb (65521 % (2 + (e - 2))) 0 z) t)

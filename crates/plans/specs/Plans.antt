@@ -1,12 +1,12 @@
 -- The plan (document 01: "The pool and its plan"): its counts, their bounds, what the equations speak of, and the checks of a key table.
-use Prim.Native.Nat.{ℕ, _*_}
+use Prim.Native.Nat.{ℕ, _*_, _≤_, _<_}
 use mathlib.Core.Bool.{Bool, not, _&&_}
 use mathlib.Core.List.{List, [], _∷_}
 use lib.Dec.{leb, eqb}
 use lib.ListN.{length}
 use Rattle.refusals.specs.declared.Code.{Code}
 use Rattle.refusals.specs.Codes.{code, accepted, codeOf, firstOf, ifAccepted}
-use Rattle.arithmetic.specs.Primes.{isPrime, allBelow}
+use Rattle.arithmetic.specs.Primes.{Prime, isPrime, allBelow}
 use Rattle.secrecy.specs.Model.{Pool}
 use Rattle.plans.specs.declared.Plan.{Plan}
 use Rattle.plans.specs.declared.Planned.{Planned}
@@ -19,19 +19,41 @@ poolOf P K = record { clusters = P .clusters; size = P .size; rate = P .rate; q 
 abbrev pub usersOf : Plan → ℕ
 usersOf P = P .clusters * P .size
 
--- U and V from 1 to 8, U × V at most 16, T from 0 to U × V
+-- ---- "Bounds: U and V from 1 to 8, U × V at most 16, T from 0 to U × V, R from 1 to 16, q a prime from 2 to 65,521, block length L from 1 to 64. The bounds
+-- belong to the plan's type and stand there by name": the constructor's promise says that the constants of the plan's type are these
+
+abbrev pub maxClusters : ℕ
+maxClusters = 8
+
+abbrev pub maxSize : ℕ
+maxSize = 8
+
+abbrev pub maxUsers : ℕ
+maxUsers = 16
+
+abbrev pub maxRate : ℕ
+maxRate = 16
+
+abbrev pub maxLength : ℕ
+maxLength = 64
+
+-- of the primes that are below a number, this one is the largest
+pub record LargestPrime (below q : ℕ) : Type 0 where
+  pub prime : Prime q
+  pub fits : q < below
+  pub largest : (p : ℕ) → p < below → Prime p → p ≤ q
+
 abbrev pub countsFit : ℕ → ℕ → ℕ → Bool
-countsFit u v t = leb 1 u && leb u 8 && leb 1 v && leb v 8 && leb (u * v) 16 && leb t (u * v)
+countsFit u v t = leb 1 u && leb u maxClusters && leb 1 v && leb v maxSize && leb (u * v) maxUsers && leb t (u * v)
 
--- and R from 1 to 16
 abbrev pub inBounds : Plan → Bool
-inBounds P = countsFit (P .clusters) (P .size) (P .limit) && leb 1 (P .rate) && leb (P .rate) 16
+inBounds P = countsFit (P .clusters) (P .size) (P .limit) && leb 1 (P .rate) && leb (P .rate) maxRate
 
--- a block's length: L from 1 to 64
+-- a block's length
 abbrev pub lengthFits : ℕ → Bool
-lengthFits L = leb 1 L && leb L 64
+lengthFits L = leb 1 L && leb L maxLength
 
--- "a constructor without self refuses 1, then 2"
+-- of "a constructor without self", to which document 01 gives no order: 1, then 2, as in every order there that has both
 abbrev pub planChecks : Plan → List (Bool × Code)
 planChecks P = (not (inBounds P), code 1) ∷ (not (isPrime (P .q)), code 2) ∷ []
 

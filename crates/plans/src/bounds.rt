@@ -1,7 +1,8 @@
 // The bounds of a plan and of a block, and the plan's constructor.
 ghost use mathlib.Core.Path.{_≡_};
-ghost use Prim.Native.Nat.{_≤_};
+ghost use Prim.Native.Nat.{_^_};
 ghost use Rattle.plans.specs.Plans.{plan, planCode, planMade, plannedCode, plannedPlan, countsFit, lengthFits, inBounds};
+ghost use Rattle.plans.specs.Plans.{maxClusters, maxSize, maxUsers, maxRate, maxLength, LargestPrime};
 use crate::Plan;
 use crate::Planned;
 use arithmetic::Symbol;
@@ -53,7 +54,7 @@ impl Plan {
     // The longest block.
     pub const MAX_LENGTH: usize = 64;
 
-    // The largest prime that a symbol's type holds: a larger q is no prime, so that no test of its own is needed.
+    // The largest prime that a symbol's 16 bits hold: a larger q is no prime, so that no test of its own is needed.
     pub const MAX_Q: Symbol = 65521;
 
     // Whether the counts are within their bounds.
@@ -69,11 +70,14 @@ impl Plan {
         self.rate <= Plan::MAX_RATE
     }
 
-    // The plan with these counts, where they are within their bounds and q is a prime.
+    // The plan with these counts, where they are within their bounds and q is a prime. The promise also fixes the bounds that stand above by name.
     pub fn new(clusters: usize, size: usize, limit: usize, rate: usize, q: Symbol) -> Planned
         ensures code { λ r. ⌜ plannedCode r ≡ planCode (plan clusters size limit rate q) ⌝ }
         ensures plan { λ r. ⌜ plannedPlan r ≡ planMade (plan clusters size limit rate q) ⌝ }
-        ensures largest { λ r. do ⌜ plannedPlan r .q ≤ (← ⟦Plan::MAX_Q⟧ .entry) ⌝ }
+        ensures clusters { λ _. do ⌜ ((← ⟦Plan::MAX_CLUSTERS⟧ .entry) ≡ maxClusters) × ((← ⟦Plan::MAX_SIZE⟧ .entry) ≡ maxSize) ⌝ }
+        ensures users { λ _. do ⌜ ((← ⟦Plan::MAX_USERS⟧ .entry) ≡ maxUsers) × ((← ⟦Plan::MAX_RATE⟧ .entry) ≡ maxRate) ⌝ }
+        ensures length { λ _. do ⌜ (← ⟦Plan::MAX_LENGTH⟧ .entry) ≡ maxLength ⌝ }
+        ensures prime { λ _. do ⌜ LargestPrime (2 ^ 16) (← ⟦Plan::MAX_Q⟧ .entry) ⌝ }
     {
         let made = Plan {
             clusters,

@@ -1,4 +1,5 @@
 use borrow.Author.Tests.{le-leb, lt-leb}
+use Prim.Native.Nat.{_*_}
 use native.Mathlib.Nat.{mul-le-mul}
 use native.Mathlib.Omega.{arith}
 use Rattle.plans.proofs.bounds.counts_fit.Statement.{statement}
@@ -20,10 +21,26 @@ mul-users : tie.Need-mul-users
 mul-users c = omega (arith, mul-le-mul {n₁ = c .before .before .before .before .args .clusters} {m₁ = c .before .before .before .before .args .size} {n₂ = 8} {m₂ = 8} (c .before .before .if2 .left) (c .if4 .left))
 
 returns-5 : tie.Need-returns-5
-returns-5 c = simp (le-leb _ _ (c .before .before .before .before .if1 .left), le-leb _ _ (c .before .before .before .if2 .left), le-leb _ _ (c .before .before .if3 .left), le-leb _ _ (c .before .if4 .left), lt-leb _ _ (c .if5 .taken))
+returns-5 c =
+    let a = c .before .before .before .before .before .args in
+    simp (
+      le-leb _ _ (c .before .before .before .before .if1 .left),
+      le-leb _ _ (c .before .before .before .if2 .left),
+      le-leb _ _ (c .before .before .if3 .left),
+      le-leb _ _ (c .before .if4 .left),
+      lt-leb (a .clusters * a .size) 16 (omega (arith, c .if5 .taken)),
+    )
 
 returns-6 : tie.Need-returns-6
-returns-6 c = simp (le-leb _ _ (c .before .before .before .before .if1 .left), le-leb _ _ (c .before .before .before .if2 .left), le-leb _ _ (c .before .before .if3 .left), le-leb _ _ (c .before .if4 .left), le-leb _ _ (c .if5 .left))
+returns-6 c =
+    let a = c .before .before .before .before .before .args in
+    simp (
+      le-leb _ _ (c .before .before .before .before .if1 .left),
+      le-leb _ _ (c .before .before .before .if2 .left),
+      le-leb _ _ (c .before .before .if3 .left),
+      le-leb _ _ (c .before .if4 .left),
+      le-leb (a .clusters * a .size) 16 (omega (arith, c .if5 .left)),
+    )
 
 pub counts-fit-spec : {M : Type 1} → statement M
 counts-fit-spec =
