@@ -83,8 +83,8 @@ uint64_t kortyghai_vet_record(const uint8_t *bytes, size_t bytes_len);
  *     table    exactly 256 symbols: the key table is put there, and 0 past its U x V x R symbols
  *     counts   exactly 5 numbers: U, V, T, R and q are put there, in this order
  *
- * Refuses, the first that holds: 4 (counts has not exactly 5 numbers), then the reader's 5, 1, 4 (the record's length is not
- * that of its plan, or table has not exactly 256 symbols), 2, 3.
+ * Refuses, the first that holds: 5, 1, 4 (the record's length is not that of its plan, table has not exactly 256 symbols, or
+ * counts has not exactly 5 numbers), 2, 3.
  */
 uint64_t kortyghai_read_record(const uint8_t *bytes, size_t bytes_len, uint16_t *table, size_t table_len, uint16_t *counts,
                                size_t counts_len);

@@ -92,18 +92,25 @@ static void read_record(void) {
 
     mark(table, 257);
     mark(counts, 6);
-    CHECK(is(kortyghai_read_record(RECORD, 34, table, 256, counts, 6), 4, 0, 0));
-    CHECK(is(kortyghai_read_record(RECORD, 33, table, 256, counts, 4), 4, 0, 0));
+    /* 5, 1, 4, 2, 3: wrong counts are 4, after 5 and 1 and before 2 and 3 */
     CHECK(is(kortyghai_read_record(RECORD, 33, table, 256, counts, 5), 5, 0, 0));
+    CHECK(is(kortyghai_read_record(RECORD, 33, table, 256, counts, 4), 5, 0, 0));
     CHECK(is(kortyghai_read_record(RECORD, 34, table, 255, counts, 5), 4, 0, 0));
     CHECK(is(kortyghai_read_record(RECORD, 34, table, 257, counts, 5), 4, 0, 0));
+    CHECK(is(kortyghai_read_record(RECORD, 34, table, 256, counts, 6), 4, 0, 0));
+    CHECK(is(kortyghai_read_record(RECORD, 34, table, 256, counts, 4), 4, 0, 0));
+    CHECK(is(kortyghai_read_record(RECORD, 34, table, 256, counts, 0), 4, 0, 0));
+    CHECK(is(kortyghai_read_record(RECORD, 34, table, 257, counts, 6), 4, 0, 0));
     bytes[2] = 5;
     CHECK(is(kortyghai_read_record(bytes, 34, table, 256, counts, 5), 1, 0, 0));
+    CHECK(is(kortyghai_read_record(bytes, 34, table, 256, counts, 6), 1, 0, 0));
     bytes[2] = 1;
     bytes[4] = 9;
     CHECK(is(kortyghai_read_record(bytes, 34, table, 256, counts, 5), 2, 0, 0));
+    CHECK(is(kortyghai_read_record(bytes, 34, table, 256, counts, 6), 4, 0, 0));
     bytes[4] = 3;
     CHECK(is(kortyghai_read_record(bytes, 34, table, 256, counts, 5), 3, 0, 0));
+    CHECK(is(kortyghai_read_record(bytes, 34, table, 256, counts, 6), 4, 0, 0));
     CHECK(marked(table, 257) && marked(counts, 6));
 }
 

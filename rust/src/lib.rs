@@ -78,7 +78,7 @@ pub fn vet_record(bytes: &[u8]) -> Result<(), Refusal> {
 /// Reads the plan record at the end of the bytes into lent buffers, without vetting it: the key table and 0 past it into
 /// `table`, which has exactly [`READ_TABLE`] symbols, and U, V, T, R and q into `counts`, which has exactly [`COUNTS`] places.
 ///
-/// Refuses, the first that holds: 4 (`counts`), 5, 1, 4 (the record's length, or `table`), 2, 3.
+/// Refuses, the first that holds: 5, 1, 4 (the record's length, `table` or `counts`), 2, 3.
 pub fn read_record_into(bytes: &[u8], table: &mut [u16], counts: &mut [u16]) -> Result<(), Refusal> {
     Refusal::unpack(unsafe {
         raw::kortyghai_read_record(bytes.as_ptr(), bytes.len(), table.as_mut_ptr(), table.len(), counts.as_mut_ptr(), counts.len())

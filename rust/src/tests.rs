@@ -78,11 +78,18 @@ fn read_records() {
 #[test]
 fn lent_buffers_of_the_reader() {
     let (mut table, mut counts) = ([7; 257], [7; 6]);
-    assert_eq!(read_record_into(&RECORD, &mut table[..256], &mut counts), refused(4, 0, 0));
-    assert_eq!(read_record_into(&RECORD[1..], &mut table[..256], &mut counts[..4]), refused(4, 0, 0));
-    assert_eq!(read_record_into(&RECORD[1..], &mut table[..256], &mut counts[..5]), refused(5, 0, 0));
     assert_eq!(read_record_into(&RECORD, &mut table, &mut counts[..5]), refused(4, 0, 0));
     assert_eq!(read_record_into(&RECORD, &mut table[..255], &mut counts[..5]), refused(4, 0, 0));
+    // 5, 1, 4, 2, 3: wrong counts are 4, after 5 and 1 and before 2 and 3
+    for places in [0, 4, 6] {
+        let mut read = |bytes: &[u8]| read_record_into(bytes, &mut table[..256], &mut counts[..places]);
+        assert_eq!(read(&RECORD[1..]), refused(5, 0, 0));
+        assert_eq!(read(&with(33, 0)), refused(5, 0, 0));
+        assert_eq!(read(&with(2, 5)), refused(1, 0, 0));
+        assert_eq!(read(&RECORD), refused(4, 0, 0));
+        assert_eq!(read(&with(4, 9)), refused(4, 0, 0));
+        assert_eq!(read(&with(4, 3)), refused(4, 0, 0));
+    }
     assert_eq!((table, counts), ([7; 257], [7; 6]));
     assert_eq!(read_record_into(&RECORD, &mut table[..256], &mut counts[..5]), Ok(()));
     assert_eq!(table[..12], TABLE);

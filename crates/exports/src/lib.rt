@@ -16,7 +16,6 @@ use arithmetic::Symbol;
 use plans::Plan;
 use plans::Planned;
 use refusals::Code;
-use refusals::Refusal;
 use refusals::Verdict;
 use refusals::code_of;
 use refusals::verdict_code;
@@ -30,7 +29,7 @@ fn pack(code: Code) -> u64
     code.number as u64 + 65536 * code.first as u64 + 65536 * 65536 * code.second as u64
 }
 
-// The number and details of what the table maker answers; the caller knows the plan, which it gave.
+// The number and details of an answer, without its plan: the table maker's caller gave it, and the reader's is handed it only in five places.
 fn planned_code(planned: Planned) -> Code
     ensures { λ r. ⌜ r ≡ plannedCode planned ⌝ }
 {
@@ -246,7 +245,9 @@ pub extern "C" fn kortyghai_read_record(
     ensures counts { λ _. ⌜ now (counts .exit) ≡ entryCounts (now (bytes .entry)) (now (table .entry)) (now (counts .entry)) ⌝ }
 {
     if counts.len() != COUNTS {
-        return pack(code_of(Refusal::WrongLength));
+        // The reader refuses a table of no symbols by the same 4, in its place in the order, and nothing lent is written.
+        let mut none: [Symbol; 0] = [];
+        return pack(planned_code(records::read_record(bytes, &mut none)));
     }
     match records::read_record(bytes, table) {
         Planned::Refused(refusal) => pack(code_of(refusal)),

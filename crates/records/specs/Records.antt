@@ -1,4 +1,4 @@
--- Plan records (document 01, "Records and tapes"). "Reading a record: 5, 1, 4, 2, 3. Writing one: 1, 4 for the table, 2, 3, 4 for the buffer."
+-- Plan records (document 01, "Records and tapes"). "Reading a record: 5, 1, 4, 2, 3. Writing one: 1, 4 for the table, 2, 3, 4 for the buffer; neither vets."
 use Prim.Native.Nat.{ℕ, zero, suc, _+_, _-_, _*_, _/_, _%_}
 use mathlib.Core.Bool.{Bool, not, _&&_, _||_}
 use mathlib.Core.List.{List, [], _∷_, _++_}
@@ -68,15 +68,19 @@ planRead B =
 abbrev pub tableRead : List ℕ → List ℕ
 tableRead B = wordsOf (usersOf (planRead B) * planRead B .rate) B (start B + 6)
 
--- the lent table has 256 symbols; 4 too where the distance is not the plan's
-abbrev pub readChecks : List ℕ → List ℕ → List (Bool × Code)
-readChecks B out =
+-- 4 where the distance is not the plan's, and where what is lent has not its exact lengths
+abbrev pub checksOf : List ℕ → Bool → List (Bool × Code)
+checksOf B lengths =
     (badTrailer B, code 5)
     ∷ (not (inBounds (planRead B)), code 1)
-    ∷ (not (eqb (distance B) (recordSize (planRead B)) && eqb (length out) 256), code 4)
+    ∷ (not (eqb (distance B) (recordSize (planRead B)) && lengths), code 4)
     ∷ (not (isPrime (planRead B .q)), code 2)
     ∷ (not (allBelow (planRead B .q) (tableRead B)), code 3)
     ∷ []
+
+-- the lent table has 256 symbols
+abbrev pub readChecks : List ℕ → List ℕ → List (Bool × Code)
+readChecks B out = checksOf B (eqb (length out) 256)
 
 abbrev pub readVerdict : List ℕ → List ℕ → Code
 readVerdict B out = firstOf (readChecks B out)

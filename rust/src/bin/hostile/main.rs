@@ -87,9 +87,8 @@ impl Kind {
     fn read_one(&mut self, bytes: &[u8], lent: usize, places: usize) {
         let (mut table, mut counts) = ([MARK; 300], [MARK; 10]);
         let got = code(kortyghai::read_record_into(bytes, &mut table[..lent], &mut counts[..places]));
-        let answer = if places == 5 { model::read(bytes, lent) } else { Err((4, 0, 0)) };
         let (mut full, mut five) = ([MARK; 300], [MARK; 10]);
-        let wanted = match answer {
+        let wanted = match model::read(bytes, lent, places) {
             Err(code) => code,
             Ok(plan) => {
                 full[..256].fill(0);

@@ -48,8 +48,8 @@ fn record(bytes: &[u8]) -> Option<(&[u8], usize)> {
     (distance >= 10).then(|| (&rest[start..], distance))
 }
 
-/// "Reading a record: 5, 1, 4, 2, 3"; `lent` is how many symbols the lent table has.
-pub fn read(bytes: &[u8], lent: usize) -> Result<Plan, Code> {
+/// "Reading a record: 5, 1, 4, 2, 3"; `lent` is how many symbols the lent table has, and `places` how many numbers the lent counts.
+pub fn read(bytes: &[u8], lent: usize, places: usize) -> Result<Plan, Code> {
     let (body, distance) = record(bytes).ok_or((5, 0, 0))?;
     let [clusters, size, limit, rate] = [body[0], body[1], body[2], body[3]].map(usize::from);
     let users = clusters * size;
@@ -57,7 +57,7 @@ pub fn read(bytes: &[u8], lent: usize) -> Result<Plan, Code> {
     if !fits {
         return Err((1, 0, 0));
     }
-    if distance != 10 + 2 * users * rate || lent != 256 {
+    if distance != 10 + 2 * users * rate || lent != 256 || places != 5 {
         return Err((4, 0, 0));
     }
     let q = word(&body[4..]);
@@ -76,7 +76,7 @@ pub fn vet_record(bytes: &[u8], leaks: fn(&Plan, usize, usize) -> bool) -> Code 
     if bytes.len() > 65_535 {
         return (4, 0, 0);
     }
-    match read(bytes, 256) {
+    match read(bytes, 256, 5) {
         Err(code) => code,
         Ok(plan) => vet(&plan, leaks),
     }

@@ -17,7 +17,7 @@ fn divisors() -> &'static [u16] {
     })
 }
 
-/// Who has reported. "Its bit in the roll is that number less 1."
+/// Who has reported. Of a sender, "its bit in the roll is that number less 1".
 fn names(reported: u16) -> Vec<usize> {
     let bits = format!("{reported:016b}");
     bits.chars().rev().zip(1..).filter(|(bit, _)| *bit == '1').map(|(_, name)| name).collect()
