@@ -1,11 +1,13 @@
 // The cases of document 01 that are to be run, with their answers written out.
 use crate::numbers::compared;
+use crate::numbers::holds;
 use crate::numbers::number_of;
 use crate::shapes::empty;
 use crate::steps::open;
 use arithmetic::Symbol;
 use rounds::RelayRound;
 use streams::draw_from;
+use testing::over;
 
 // Relay 1 of a plan with 2 users in each cluster.
 fn opens(clusters: usize, q: usize, length: usize, number: usize) -> usize {
@@ -31,12 +33,14 @@ fn second_frame() -> usize {
     compared(number_of(other), 11, number_of(one) == 0)
 }
 
+// A draw of 5 symbols from a stream of 8. What the buffer holds and where the position stands are compared too: a refused draw leaves both.
 fn draws(at: usize, number: usize) -> usize {
-    let stream = [4 as Symbol; 8];
-    let mut out = [0 as Symbol; 5];
+    let stream = [1 as Symbol, 2, 3, 4, 5, 6, 7, 8];
+    let mut out = [65535 as Symbol; 5];
     let drawn = draw_from(&stream, at, 5, &mut out);
     let answer = drawn.answer;
-    compared(number_of(answer), number, true)
+    let same = holds(&out, number, &stream, at) && drawn.at == over(number > 0, at, 8);
+    compared(number_of(answer), number, same)
 }
 
 // q 65,521 passes, 65,535 and 1 don't; L 64 passes, 65 and 0 don't; U 9 is refused. Of the draws the first finds exactly L left, the second
