@@ -38,10 +38,10 @@ use Rattle.matrices.proofs.Fronts.{length-part, part-at}
 
 -- ---- the rate
 
--- where a limit is below (U − 1) V, R is from 1 to 16
-module _ (u v t : ℕ) (c : Counts u v t) (below : t < (u - 1) * v) where
-  -- V + T is below U V
-  room : v + t < u * v
+-- where a limit is at most (U − 1) V, R is from 1 to 16
+module _ (u v t : ℕ) (c : Counts u v t) (below : t ≤ (u - 1) * v) where
+  -- V + T is at most U V
+  room : v + t ≤ u * v
   room =
       let m : ℕ = u - 1 in
       let e : u ≡ m + 1 = omega (arith, c .some-clusters) in
@@ -53,7 +53,7 @@ module _ (u v t : ℕ) (c : Counts u v t) (below : t < (u - 1) * v) where
   pub rate-high : rateOf u v t ≤ 16
   rate-high = omega (arith, room, c .few-users)
 
-pub made-bounds : (u v t q : ℕ) → countsFit u v t ≡ true → t < (u - 1) * v → inBounds (planOf u v t q) ≡ true
+pub made-bounds : (u v t q : ℕ) → countsFit u v t ≡ true → t ≤ (u - 1) * v → inBounds (planOf u v t q) ≡ true
 made-bounds u v t q e h =
     let c : Counts u v t = counts-known u v t e in
     ap (λ (b : Bool). b && leb 1 (rateOf u v t) && leb (rateOf u v t) 16) e
@@ -233,7 +233,7 @@ module _ (u v t q γ : ℕ) (out : List ℕ) where
   maker-vets n =
       let P : Plan = planOf u v t q in
       let walk : List (Bool × Code) = map (leakCheck P (madeTable u v t q γ)) (pairs u v t) in
-      let within : inBounds P ≡ true = made-bounds u v t q (not-false (countsFit u v t) (n .0)) (leb-false ((u - 1) * v) t (n .1 .1 .1 .0)) in
+      let within : inBounds P ≡ true = made-bounds u v t q (not-false (countsFit u v t) (n .0)) (omega (arith, leb-false ((u - 1) * v) t (n .1 .1 .1 .0))) in
       none-decide (ownChecks u v t q γ out) walk n
       ∙ sym (made-verdict P γ (bounds-known P within) (true-prime q (not-false (isPrime q) (n .1 .0))) refl within)
 

@@ -1,4 +1,4 @@
-// The second implementation of "from bytes to verdict": its own trailer, counts, primes, symbols and columns, in the order of document 01.
+// The second implementation, from bytes to verdict: its own trailer, counts, primes, symbols and columns, in the order of document 01.
 // Only whether a plan leaks is asked of the library; another test holds that to a count.
 ghost use Prim.Native.Nat.{_≤_};
 use crate::numbers::after;

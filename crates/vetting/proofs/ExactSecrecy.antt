@@ -104,8 +104,9 @@ module _ (P : Plan) (K : List ℕ) where
       absurd (omega arith))
       (search P K walk)
 
-  -- (a) "For any accepted plan, any coalition up to its limit, any observer, any block length and any view: every two sets of readings that agree on
-  -- the coalition and, for the server, on the total, have the same number of key blocks that show that view."
+  -- (a) "Take any accepted plan, any gang of meters up to its limit, any watcher, which is one gateway or the desk, any block length and any sight. Every
+  -- two sets of readings that agree on the gang's members and, where the watcher is the desk, on the total modulo the prime, have the same number of key
+  -- blocks that show the watcher that sight in a round." Gang, watcher and sight are coalition, observer and view here.
   pub accepted-equal-numbers : accepted ≡ verdict P K → (g w : ℕ) → InWalk P g w → (L : ℕ) → 1 ≤ L → L ≤ 64
       → (W W′ : List ℕ) → Symbols (P .q) (usersOf P) L W → Symbols (P .q) (usersOf P) L W′ → Agrees (poolOf P K) g w L W W′
       → (s : List ℕ) → number (P .q) (P .rate) (view (poolOf P K) g w) L W s ≡ number (P .q) (P .rate) (view (poolOf P K) g w) L W′ s
@@ -120,7 +121,7 @@ module _ (P : Plan) (K : List ℕ) where
     found-iff : (p : Pair) → Found P K p ↔ LeaksTo p
     found-iff p = leaks-iff (poolOf P K) (c .prime) (c .valid) (p .coalition) (p .observer)
 
-    -- the two ways to say "first"
+    -- the first pair that the search finds is the first that leaks
     to-leak : (p : Pair) → First (Found P K) walk p → First LeaksTo walk p
     to-leak p f =
         record {
@@ -135,7 +136,8 @@ module _ (P : Plan) (K : List ℕ) where
     named p before after s n h =
         sym (walk-decides others) ∙ ap (λ (l : List Pair). firstOf (map (leakCheck P K) l)) s ∙ first-code P K before after p n h
 
-    -- (b) "A plan that passes the other checks is refused as leaking exactly when some pair leaks"; "the refusal names the first such"
+    -- (b) "A plan that passes the other checks is refused as leaking exactly when, for some gang, watcher and block length, some such pair of sets has
+    -- unequal numbers for some sight; the refusal names the first gang and watcher for which that is so."
     pub refused-names-first : (p : Pair) → (verdict P K ≡ record { number = 7; first = p .coalition; second = p .observer }) ↔ First LeaksTo walk p
     refused-names-first p = (
       (λ e.

@@ -2,7 +2,8 @@ use borrow.Author.Tests.{leb-false, eqb-true, not-false}
 use mathlib.Core.Path.{_≡_, refl, sym, ap, _∙_, subst}
 use mathlib.Core.Bool.{Bool, true}
 use mathlib.Core.List.{List, map}
-use Prim.Native.Nat.{ℕ, _*_}
+use Prim.Native.Nat.{ℕ, _-_, _*_}
+use native.Mathlib.Omega.{arith}
 use lib.ListN.{length}
 use Rattle.refusals.specs.declared.Code.{Code}
 use Rattle.refusals.specs.Codes.{accepted, codeOf, verdictCode, firstOf, ifAccepted}
@@ -52,7 +53,7 @@ write-table-requires c κs =
     let a = c .before .before .before .before .before .before .before .args in
     let n = passed (c .before .before) in
     subst (λ (P : Plan). (inBounds P ≡ true) × (isPrime (P .q) ≡ true) × (P .rate ≡ rateOf (P .clusters) (P .size) (P .limit)) × (length (a .table .now) ≡ usersOf P * P .rate)) (sym (plan-is (c .before .before))) (
-      made-bounds (a .clusters) (a .size) (a .limit) (a .q) (not-false _ (n .0)) (leb-false _ _ (n .1 .1 .1 .0)),
+      made-bounds (a .clusters) (a .size) (a .limit) (a .q) (not-false _ (n .0)) (omega (arith, leb-false ((a .clusters - 1) * a .size) (a .limit) (n .1 .1 .1 .0))),
       not-false _ (n .1 .0),
       refl,
       eqb-true _ _ (not-false _ (n .1 .1 .1 .1 .0)),

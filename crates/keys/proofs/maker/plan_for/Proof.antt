@@ -1,9 +1,10 @@
 use borrow.Author.Tests.{lt-ltb, le-ltb, le-leb, lt-leb, eq-eqb, ne-eqb, not-true, not-false}
 use mathlib.Core.Path.{_≡_, refl, sym, ap, _∙_}
-use mathlib.Core.Bool.{true}
+use mathlib.Core.Bool.{true, false}
 use Prim.Native.Nat.{ℕ, _-_, _*_}
 use native.Mathlib.Nat.{mul-le-mul}
 use native.Mathlib.Omega.{arith}
+use lib.Dec.{leb}
 use Rattle.arithmetic.specs.Primes.{isPrime}
 use Rattle.plans.specs.declared.Plan.{Plan}
 use Rattle.plans.specs.Plans.{plan, countsFit, inBounds}
@@ -42,7 +43,14 @@ mul-if4 c =
     omega (arith, mul-le-mul {n₁ = a .clusters - 1} {m₁ = a .size} {n₂ = 8} {m₂ = 8} (omega (arith, k .few-clusters)) (k .few-size))
 
 returns-4 : tie.Need-returns-4
-returns-4 c = (rw (counts (c .before .before .before .before), prime (c .before .before), lt-ltb _ _ (c .before .if3 .left), le-leb _ _ (c .if4 .taken)), refl)
+returns-4 c =
+    let a = c .before .before .before .before .before .before .before .args in
+    (rw (counts (c .before .before .before .before), prime (c .before .before), lt-ltb _ _ (c .before .if3 .left), le-leb ((a .clusters - 1) * a .size) (a .limit) (omega (arith, c .if4 .taken))), refl)
+
+below : (c : tie.Else4) → (let a = c .before .before .before .before .before .before .before .args in leb ((a .clusters - 1) * a .size) (a .limit) ≡ false)
+below c =
+    let a = c .before .before .before .before .before .before .before .args in
+    lt-leb ((a .clusters - 1) * a .size) (a .limit) (omega (arith, c .if4 .left))
 
 rate-of-requires : tie.Need-rate-of-requires
 rate-of-requires c κs =
@@ -57,7 +65,7 @@ within : (c : tie.After-rate-of) → inBounds (planned (c .before .before .befor
 within c =
     let s = c .before .before .before .before .before .before .before .before in
     ap (λ (R : ℕ). inBounds (planned s R)) (c .rate-of .ensures)
-    ∙ made-bounds (s .args .clusters) (s .args .size) (s .args .limit) (s .args .q) (counts (c .before .before .before .before .before)) (c .before .if4 .left)
+    ∙ made-bounds (s .args .clusters) (s .args .size) (s .args .limit) (s .args .q) (counts (c .before .before .before .before .before)) (omega (arith, c .before .if4 .left))
 
 mul-if5 : tie.Need-mul-if5
 mul-if5 c = omega (arith, known (c .before .before .before .before .before) .few-users)
@@ -70,10 +78,10 @@ asked : (c : tie.After-rate-of) → (let a = c .before .before .before .before .
 asked c = let a = c .before .before .before .before .before .before .before .before .args in ap (λ (R : ℕ). a .clusters * a .size * R) (c .rate-of .ensures)
 
 returns-5 : tie.Need-returns-5
-returns-5 c = (rw (counts (c .before .before .before .before .before .before), prime (c .before .before .before .before), lt-ltb _ _ (c .before .before .before .if3 .left), lt-leb _ _ (c .before .before .if4 .left), ne-eqb _ _ (λ e. c .if5 .taken (e ∙ sym (asked (c .before))))), refl)
+returns-5 c = (rw (counts (c .before .before .before .before .before .before), prime (c .before .before .before .before), lt-ltb _ _ (c .before .before .before .if3 .left), below (c .before .before), ne-eqb _ _ (λ e. c .if5 .taken (e ∙ sym (asked (c .before))))), refl)
 
 returns-6 : tie.Need-returns-6
-returns-6 c = (rw (counts (c .before .before .before .before .before .before), prime (c .before .before .before .before), lt-ltb _ _ (c .before .before .before .if3 .left), lt-leb _ _ (c .before .before .if4 .left), eq-eqb _ _ (c .if5 .left ∙ asked (c .before))), ap (planned (c .before .before .before .before .before .before .before .before .before)) (c .before .rate-of .ensures))
+returns-6 c = (rw (counts (c .before .before .before .before .before .before), prime (c .before .before .before .before), lt-ltb _ _ (c .before .before .before .if3 .left), below (c .before .before), eq-eqb _ _ (c .if5 .left ∙ asked (c .before))), ap (planned (c .before .before .before .before .before .before .before .before .before)) (c .before .rate-of .ensures))
 
 pub plan-for-spec : {M : Type 1} → statement M
 plan-for-spec =

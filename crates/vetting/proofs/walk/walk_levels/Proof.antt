@@ -28,8 +28,7 @@ rest clusters size limit g = pairsFrom (clusters * size) limit clusters (2 ^ (cl
 abbrev Inv-loop : tie.InvT-loop
 Inv-loop q clusters size limit cols levels users rows last top g k w₀ w =
     let T : List ℕ = base clusters size cols levels in
-    (1 ≤ w)
-    × (w ≤ clusters + 2)
+    (w ≤ clusters + 2)
     × (firstHit (hit (plan clusters size limit cols q) T) (map (pairOf g) (observersFrom clusters (clusters + 2 - w) w) ++ rest clusters size limit g) ≡ walked (plan clusters size limit cols q) T)
 
 abbrev μ-loop : tie.MeasureT-loop
@@ -129,7 +128,7 @@ over c =
     (λ w.
     subst (λ (X : List ℕ). firstHit (hit (plan (a .clusters) (a .size) (a .limit) (a .cols) (a .q)) X) R ≡ walked (plan (a .clusters) (a .size) (a .limit) (a .cols) (a .q)) X)
     (full (record { before = record { before = c .before; if1 = w .0 }; if2 = w .1 }) .base)
-    (ap (λ (l : List ℕ). firstHit (hit (plan (a .clusters) (a .size) (a .limit) (a .cols) (a .q)) (base (a .clusters) (a .size) (a .cols) (w .1 .levels))) (map (pairOf g) l ++ R)) (sym (observers-none (a .clusters) (w .2 .w) (w .3 .left))) ∙ w .2 .inv .2))
+    (ap (λ (l : List ℕ). firstHit (hit (plan (a .clusters) (a .size) (a .limit) (a .cols) (a .q)) (base (a .clusters) (a .size) (a .cols) (w .1 .levels))) (map (pairOf g) l ++ R)) (sym (observers-none (a .clusters) (w .2 .w) (w .3 .left))) ∙ w .2 .inv .1))
     (λ w. ap (firstHit (hit (plan (a .clusters) (a .size) (a .limit) (a .cols) (a .q)) (base (a .clusters) (a .size) (a .cols) (a .levels .now)))) (sym (pairs-skipped (a .clusters * a .size) (a .limit) (a .clusters) g (i .0) (w .0 .left))) ∙ i .2)
     (c .if1 .came)
 
@@ -195,7 +194,6 @@ loop-holds c =
     let R : List Pair = rest (a .clusters) (a .size) (a .limit) g in
     let k : a .clusters + 2 - 1 ≡ a .clusters + 1 = omega arith in (
       omega arith,
-      omega arith,
       ap (λ (l : List ℕ). firstHit (hit (plan (a .clusters) (a .size) (a .limit) (a .cols) (a .q)) (base (a .clusters) (a .size) (a .cols) (c .if2 .levels))) (map (pairOf g) l ++ R))
           (ap (λ (n : ℕ). observersFrom (a .clusters) n 1) k ∙ observers-are (a .clusters))
           ∙ subst (λ (X : List ℕ). firstHit (hit (plan (a .clusters) (a .size) (a .limit) (a .cols) (a .q)) X) (map (pairOf g) (observers (a .clusters)) ++ R) ≡ walked (plan (a .clusters) (a .size) (a .limit) (a .cols) (a .q)) X) (sym (full c .base)) (kept (c .before)),
@@ -225,11 +223,10 @@ loop-again c =
     let f = hit (plan (a .clusters) (a .size) (a .limit) (a .cols) (a .q)) (base (a .clusters) (a .size) (a .cols) (d .if2 .levels)) in
     let R : List Pair = rest (a .clusters) (a .size) (a .limit) g in
     let h = c .before .before .before .loop-test .taken in (
-      omega arith,
       omega (arith, h),
       sym (miss-first f g R (w % (a .clusters + 1)) (observersFrom (a .clusters) (a .clusters + 2 - (w + 1)) (w + 1)) (sym (tested (c .before)) ∙ c .if3 .left))
           ∙ ap (λ (l : List ℕ). firstHit f (map (pairOf g) l ++ R)) (sym (observers-next (a .clusters) w h))
-          ∙ c .before .before .before .before .loop .inv .2,
+          ∙ c .before .before .before .before .loop .inv .1,
     )
 
 add-g : tie.Need-add-g Inv-loop μ-loop Inv-walk μ-walk
@@ -254,7 +251,7 @@ returns c =
     let R : List Pair = rest (a .clusters) (a .size) (a .limit) g in
     sym (hit-first f g R (w % (a .clusters + 1)) (observersFrom (a .clusters) (a .clusters + 2 - (w + 1)) (w + 1)) (sym (tested (c .before)) ∙ c .if3 .taken))
     ∙ ap (λ (l : List ℕ). firstHit f (map (pairOf g) l ++ R)) (sym (observers-next (a .clusters) w (c .before .before .before .loop-test .taken)))
-    ∙ c .before .before .before .before .loop .inv .2
+    ∙ c .before .before .before .before .loop .inv .1
     ∙ ap (walked (plan (a .clusters) (a .size) (a .limit) (a .cols) (a .q))) (full d .base)
 
 same-length-2 : tie.Need-same-length-2 Inv-loop μ-loop Inv-walk μ-walk
