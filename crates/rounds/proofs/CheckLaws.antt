@@ -84,9 +84,9 @@ frame-known senders known R ledger f e =
       good = good-state senders known R (first-accepts (stateChecks senders known R) (drop 5 (frameChecks senders known R ledger f)) tt e);
       sender-some = leb→le 1 (f .sender) low;
       sender-few = leb→le (f .sender) senders high;
-      long = eqb-true (length (f .block)) (R .length) (not-false (eqb (length (f .block)) (R .length)) (w .1 .0));
-      below = not-false (allBelow (R .q) (f .block)) (w .1 .1 .0);
-      same = eqb-true (f .number) (R .number) (not-false (eqb (f .number) (R .number)) (w .1 .1 .1 .0));
+      same = eqb-true (f .number) (R .number) (not-false (eqb (f .number) (R .number)) (w .1 .0));
+      long = eqb-true (length (f .block)) (R .length) (not-false (eqb (length (f .block)) (R .length)) (w .1 .1 .0));
+      below = not-false (allBelow (R .q) (f .block)) (w .1 .1 .1 .0);
       new = w .1 .1 .1 .1 .0;
     }
 

@@ -197,9 +197,9 @@ module _ (senders : ℕ) (known : Bool) (R : Round) where
           rest : Bool → Bool → Code
           rest t h =
               cond (not t) (code 8)
+              (cond (not (eqb (f .number) (R .number))) (code 14)
               (cond (not (eqb (length (f .block)) (R .length))) (code 4)
               (cond (not (allBelow (R .q) (f .block))) (code 3)
-              (cond (not (eqb (f .number) (R .number))) (code 14)
               (cond h (code 11) accepted))))
 
           go : (t : Bool) → oneOf senders (f .sender) ≡ t

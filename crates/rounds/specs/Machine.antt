@@ -25,9 +25,9 @@ contentChecks senders R =
 abbrev pub ownChecks : ℕ → Round → Frame → List (Bool × Code)
 ownChecks senders R f =
     (not (oneOf senders (f .sender)), code 8)
+    ∷ (not (eqb (f .number) (R .number)), code 14)
     ∷ (not (eqb (length (f .block)) (R .length)), code 4)
     ∷ (not (allBelow (R .q) (f .block)), code 3)
-    ∷ (not (eqb (f .number) (R .number)), code 14)
     ∷ (hasReported R [] (f .sender), code 11)
     ∷ []
 

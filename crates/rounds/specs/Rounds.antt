@@ -83,14 +83,14 @@ module _ (senders : ℕ) (known : Bool) where
       ∷ (not (sumsFit (R .q) (R .length) (R .sums)), code 3)
       ∷ []
 
-  -- "A frame into a round: 8, 4, 3, 14, 11"
+  -- document 02, Q-3: "The order for a frame into a round becomes 8, 14, 4, 3, 11."
   abbrev pub frameChecks : Round → List Frame → Frame → List (Bool × Code)
   frameChecks R ledger f =
       stateChecks R
       ++ (not (oneOf senders (f .sender)), code 8)
+      ∷ (not (eqb (f .number) (R .number)), code 14)
       ∷ (not (eqb (length (f .block)) (R .length)), code 4)
       ∷ (not (allBelow (R .q) (f .block)), code 3)
-      ∷ (not (eqb (f .number) (R .number)), code 14)
       ∷ (hasReported R ledger (f .sender), code 11)
       ∷ []
 

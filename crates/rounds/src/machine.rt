@@ -135,7 +135,7 @@ impl Round {
         self.check_contents(senders)
     }
 
-    // The frame itself: 8, 4, 3, 14, 11.
+    // The frame itself: 8, 14, 4, 3, 11. The round number comes before the block, so that a late user is called late, whatever it sends.
     fn check_own(self, senders: usize, sender: usize, number: u32, block: &[Symbol]) -> Verdict
         requires { ⌜ senders ≤ 8 ⌝ }
         ensures { λ r. ⌜ verdictCode r ≡ firstOf (ownChecks senders self (frame sender number (now (block .entry)))) ⌝ }
@@ -143,14 +143,14 @@ impl Round {
         if !one_of(senders, sender) {
             return Verdict::Refused(Refusal::UnknownNumber);
         }
+        if number != self.number {
+            return Verdict::Refused(Refusal::OtherRound);
+        }
         if block.len() != self.length {
             return Verdict::Refused(Refusal::WrongLength);
         }
         if !all_below(self.q, block) {
             return Verdict::Refused(Refusal::NotASymbol);
-        }
-        if number != self.number {
-            return Verdict::Refused(Refusal::OtherRound);
         }
         if self.has_reported(sender) {
             return Verdict::Refused(Refusal::AlreadyReported);

@@ -28,23 +28,23 @@ listed c = sym (c .before .one-of .ensures) ∙ not-false _ (c .if1 .left)
 past-sender : (c : tie.Else1) → code 0 (c .before .before .before) ≡ code 1 (c .before .before .before)
 past-sender c = rw (listed c)
 
-past-length : (c : tie.Else2) → code 0 (c .before .before .before .before .before) ≡ code 2 (c .before .before .before .before .before)
-past-length c = past-sender (c .before .before) ∙ rw (eq-eqb _ _ (c .if2 .left))
+past-number : (c : tie.Else2) → code 0 (c .before .before .before .before .before) ≡ code 2 (c .before .before .before .before .before)
+past-number c = past-sender (c .before .before) ∙ rw (eq-eqb _ _ (c .if2 .left))
 
-past-symbols : (c : tie.Else3) → code 0 (c .before .before .before .before .before .before .before) ≡ code 3 (c .before .before .before .before .before .before .before)
-past-symbols c = past-length (c .before .before) ∙ rw (sym (c .before .all-below .ensures) ∙ not-false _ (c .if3 .left))
+past-length : (c : tie.Else3) → code 0 (c .before .before .before .before .before .before .before) ≡ code 3 (c .before .before .before .before .before .before .before)
+past-length c = past-number (c .before .before) ∙ rw (eq-eqb _ _ (c .if3 .left))
 
-past-number : (c : tie.Else4) → code 0 (c .before .before .before .before .before .before .before .before .before) ≡ code 4 (c .before .before .before .before .before .before .before .before .before)
-past-number c = past-symbols (c .before .before) ∙ rw (eq-eqb _ _ (c .if4 .left))
+past-symbols : (c : tie.Else4) → code 0 (c .before .before .before .before .before .before .before .before .before) ≡ code 4 (c .before .before .before .before .before .before .before .before .before)
+past-symbols c = past-length (c .before .before) ∙ rw (sym (c .before .all-below .ensures) ∙ not-false _ (c .if4 .left))
 
 returns-2 : tie.Need-returns-2
 returns-2 c = sym (past-sender (c .before .before) ∙ rw (ne-eqb _ _ (c .if2 .taken)))
 
 returns-3 : tie.Need-returns-3
-returns-3 c = sym (past-length (c .before .before) ∙ rw (sym (c .before .all-below .ensures) ∙ not-true _ (c .if3 .taken)))
+returns-3 c = sym (past-number (c .before .before) ∙ rw (ne-eqb _ _ (c .if3 .taken)))
 
 returns-4 : tie.Need-returns-4
-returns-4 c = sym (past-symbols (c .before .before) ∙ rw (ne-eqb _ _ (c .if4 .taken)))
+returns-4 c = sym (past-length (c .before .before) ∙ rw (sym (c .before .all-below .ensures) ∙ not-true _ (c .if4 .taken)))
 
 has-reported-requires : tie.Need-has-reported-requires
 has-reported-requires c κs =
@@ -55,11 +55,11 @@ has-reported-requires c κs =
 
 returns-5 : tie.Need-returns-5
 unfolding named
-returns-5 c = sym (past-number (c .before .before) ∙ rw (sym (c .before .has-reported .ensures) ∙ c .if5 .taken))
+returns-5 c = sym (past-symbols (c .before .before) ∙ rw (sym (c .before .has-reported .ensures) ∙ c .if5 .taken))
 
 returns-6 : tie.Need-returns-6
 unfolding named
-returns-6 c = sym (past-number (c .before .before) ∙ rw (sym (c .before .has-reported .ensures) ∙ c .if5 .left))
+returns-6 c = sym (past-symbols (c .before .before) ∙ rw (sym (c .before .has-reported .ensures) ∙ c .if5 .left))
 
 pub check-own-spec : {M : Type 1} → statement M
 check-own-spec =
@@ -68,8 +68,8 @@ check-own-spec =
     (λ c κs. tt)
     returns
     returns-2
-    (λ c κs. tt)
     returns-3
+    (λ c κs. tt)
     returns-4
     has-reported-requires
     returns-5
