@@ -154,7 +154,7 @@ uint64_t kortyghai_unmask(uint16_t q, size_t length, const uint16_t *upload, siz
  *     said       the round number that the frame has
  *     block      exactly L symbols
  *
- * Refuses, the first that holds: of the state 1, 2, 9, 8, 3, then of the frame 8, 4, 3, 14, 11.
+ * Refuses, the first that holds: of the state 1, 2, 9, 8, 3, then of the frame 8, 14, 4, 3, 11.
  */
 uint64_t kortyghai_count_frame(size_t clusters, size_t size, uint16_t q, size_t length, size_t cluster, uint32_t number,
                                uint16_t *reported, uint16_t *sums, size_t sender, uint32_t said, const uint16_t *block,

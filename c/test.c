@@ -172,6 +172,10 @@ static void frames(void) {
     CHECK(is(kortyghai_give_sums(2, 2, 5, 1, 1, 9, reported, sums, out, 1), 12, 0, 0));
     CHECK(is(kortyghai_count_frame(2, 2, 5, 1, 1, 9, &reported, sums, 1, 9, second, 1), 11, 0, 0));
     CHECK(is(kortyghai_count_frame(2, 2, 5, 1, 1, 9, &reported, sums, 2, 8, second, 1), 14, 0, 0));
+    /* a late frame is called late, whatever its block, and an unknown sender unknown */
+    CHECK(is(kortyghai_count_frame(2, 2, 5, 1, 1, 9, &reported, sums, 2, 8, second, 0), 14, 0, 0));
+    CHECK(is(kortyghai_count_frame(2, 2, 5, 1, 1, 9, &reported, sums, 2, 8, bad, 1), 14, 0, 0));
+    CHECK(is(kortyghai_count_frame(2, 2, 5, 1, 1, 9, &reported, sums, 3, 8, second, 0), 8, 0, 0));
     CHECK(is(kortyghai_count_frame(2, 2, 5, 1, 1, 9, &reported, sums, 2, 9, bad, 1), 3, 0, 0));
     CHECK(is(kortyghai_count_frame(2, 2, 5, 1, 1, 9, &reported, sums, 2, 9, second, 0), 4, 0, 0));
     CHECK(is(kortyghai_count_frame(2, 2, 5, 1, 1, 9, &reported, sums, 3, 9, second, 1), 8, 0, 0));

@@ -91,7 +91,7 @@ pub fn unmask(q: u16, length: usize, upload: &[u16], key: &[u16], out: &mut [u16
     Code(code, 0, 0)
 }
 
-/// A state: "1, 2, 9, 8, 3". A frame: "8, 4, 3, 14, 11."
+/// A state: "1, 2, 9, 8, 3". A frame: "8, 14, 4, 3, 11."
 fn frame_code(r: &Relay, sender: usize, said: u32, block: &[u16]) -> u16 {
     let (u, v) = (r.clusters, r.size);
     if !(1..=8).contains(&u) || !(1..=8).contains(&v) || u * v > 16 {
@@ -112,14 +112,14 @@ fn frame_code(r: &Relay, sender: usize, said: u32, block: &[u16]) -> u16 {
     if !(1..=v).contains(&sender) {
         return 8;
     }
+    if said != r.number {
+        return 14;
+    }
     if block.len() != r.length {
         return 4;
     }
     if !all_below(r.q, block) {
         return 3;
-    }
-    if said != r.number {
-        return 14;
     }
     if r.reported >> (sender - 1) & 1 == 1 {
         return 11;

@@ -207,7 +207,7 @@ pub struct RelayRound {
 /// A frame into a relay's round: a sender from 1 to V, the round number `said` in it, and a block of exactly L symbols, which
 /// are added to the sums.
 ///
-/// Refuses, the first that holds, for the round: 1, 2, 9, 8, 3; then for the frame: 8, 4, 3, 14, 11.
+/// Refuses, the first that holds, for the round: 1, 2, 9, 8, 3; then for the frame: 8, 14, 4, 3, 11.
 pub fn count_frame(round: &mut RelayRound, sender: usize, said: u32, block: &[u16]) -> Result<(), Refusal> {
     Refusal::unpack(unsafe {
         raw::kortyghai_count_frame(

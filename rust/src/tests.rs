@@ -158,9 +158,12 @@ fn frames_into_a_round() {
     assert_eq!(count_frame(&mut round, 2, 9, &[4, 1]), Ok(()));
     let before = round.clone();
     assert_eq!(count_frame(&mut round, 2, 9, &[1, 1]), refused(11, 0, 0));
+    assert_eq!(count_frame(&mut round, 2, 9, &[1, 5]), refused(3, 0, 0));
+    assert_eq!(count_frame(&mut round, 2, 9, &[5]), refused(4, 0, 0));
+    // a late user is called late, whatever its block
     assert_eq!(count_frame(&mut round, 2, 8, &[1, 1]), refused(14, 0, 0));
-    assert_eq!(count_frame(&mut round, 2, 8, &[1, 5]), refused(3, 0, 0));
-    assert_eq!(count_frame(&mut round, 2, 8, &[5]), refused(4, 0, 0));
+    assert_eq!(count_frame(&mut round, 2, 8, &[1, 5]), refused(14, 0, 0));
+    assert_eq!(count_frame(&mut round, 2, 8, &[5]), refused(14, 0, 0));
     assert_eq!(count_frame(&mut round, 3, 8, &[5]), refused(8, 0, 0));
     assert_eq!(round, before);
     assert_eq!(give_sums(&round), refused(12, 0, 0));

@@ -63,7 +63,7 @@ pub fn state_number(server: bool, s: RelayRound, otherwise: usize) -> usize {
     opening_number(server, s, over(wide(round.reported) >= most, 8, large))
 }
 
-// A frame: 8, 4, 3, 14, 11.
+// A frame: 8, 14, 4, 3, 11.
 pub fn frame_number(
     senders: usize,
     round: Round,
@@ -73,10 +73,11 @@ pub fn frame_number(
     block: &[Symbol],
 ) -> usize {
     let named = quotient(names, power(65536, 2, sender % 16)) % 2;
-    let late = over(number != round.number, 14, over(named == 1, 11, 0));
-    let large = over(count_large(block, wide(round.q)) > 0, 3, late);
+    let again = over(named == 1, 11, 0);
+    let large = over(count_large(block, wide(round.q)) > 0, 3, again);
     let length = over(block.len() != round.length, 4, large);
-    over(is_outside(sender, senders), 8, length)
+    let late = over(number != round.number, 14, length);
+    over(is_outside(sender, senders), 8, late)
 }
 
 // Giving sums: 12, 4.

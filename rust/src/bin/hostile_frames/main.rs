@@ -379,6 +379,7 @@ mod tests {
         assert_eq!(count(2, 9, &[3]).map(|(reported, sums)| (reported, sums[0])), Ok((3, 2)));
         assert_eq!([count(3, 9, &[3]), count(2, 9, &[]), count(2, 9, &[5])], [Err(8), Err(4), Err(3)]);
         assert_eq!([count(1, 8, &[3]), count(1, 9, &[3])], [Err(14), Err(11)]);
+        assert_eq!([count(2, 8, &[]), count(2, 8, &[5]), count(3, 8, &[])], [Err(14), Err(14), Err(8)]);
         let full = RelayRound { reported: 3, ..round.clone() };
         assert_eq!([model::give(&round, 2), model::give(&full, 2), model::give(&full, 1)], [Err(12), Err(4), Ok(vec![4])]);
     }

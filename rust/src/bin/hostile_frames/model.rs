@@ -1,5 +1,5 @@
-//! A second round, written from document 01 alone. It keeps the names of those who have reported as a list, adds whole numbers
-//! and then reduces them, and knows a prime by its having two divisors.
+//! A second round, written from documents 01 and 02 alone. It keeps the names of those who have reported as a list, adds whole
+//! numbers and then reduces them, and knows a prime by its having two divisors.
 
 use crate::states::Frame;
 use kortyghai::RelayRound;
@@ -38,13 +38,13 @@ fn of_state(round: &RelayRound, names: &[usize]) -> [(u16, bool); 5] {
     ]
 }
 
-/// "A frame into a round: 8, 4, 3, 14, 11."
+/// "The order for a frame into a round becomes 8, 14, 4, 3, 11."
 fn of_frame(round: &RelayRound, names: &[usize], frame: &Frame) -> [(u16, bool); 5] {
     [
         (8, frame.sender == 0 || frame.sender > round.size),
+        (14, frame.said != round.number),
         (4, frame.block.len() != round.length),
         (3, frame.block.iter().any(|&x| x >= round.q)),
-        (14, frame.said != round.number),
         (11, names.contains(&frame.sender)),
     ]
 }

@@ -175,9 +175,9 @@ pub const DAMAGES: [Damage; 12] = [
     ("a sum not below q", 3, sum_too_large),
     ("a sum past L", 3, sum_past),
     ("sender outside", 8, no_sender),
+    ("another round's number", 14, late),
     ("block of another length", 4, block_length),
     ("a symbol not below q", 3, symbol_too_large),
-    ("another round's number", 14, late),
     ("sender has reported", 11, repeated),
 ];
 
