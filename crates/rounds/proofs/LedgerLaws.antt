@@ -25,8 +25,9 @@ use Rattle.refusals.proofs.Orders.{rest-decides}
 use Rattle.rounds.specs.declared.Round.{Round}
 use Rattle.rounds.specs.Ledger.{Frame, named, bitsOf, countedAt}
 use Rattle.arithmetic.specs.Bits.{hasBit}
-use Rattle.rounds.specs.Rounds.{oneOf, sumsFit, stateChecks, hasReported, after, frameChecks, giveChecks, stepCode, stepped, giveCode, sumsAfter, answersOf, runOf, noted, ledgerAnswers, ledgerOf, ledgerGiveCode, ledgerSums}
-use Rattle.rounds.proofs.CheckLaws.{Good, good-state, Passed, frame-known}
+use Rattle.rounds.specs.Machine.{Good}
+use Rattle.rounds.specs.Rounds.{oneOf, sumsFit, stateChecks, hasReported, isFull, after, ownChecks, lentChecks, frameChecks, giveChecks, stepCode, stepped, giveCode, sumsAfter, answersOf, runOf, noted, ledgerAnswers, ledgerOf, ledgerGiveCode, ledgerSums}
+use Rattle.rounds.proofs.CheckLaws.{good-state, Passed, frame-known}
 use Rattle.rounds.proofs.ReportedLaws.{true-not-false, bit-added, added-below}
 use Rattle.rounds.proofs.StepLaws.{all-cong, or-none, past-zero}
 
@@ -112,6 +113,36 @@ module _ (senders : ℕ) (R : Round) where
             ∙ ap (λ (t : Bool). hasBit (R .reported) (s - 1) || t) (sym (named-more ledger f s));
       }
 
+  -- a round that has become what the ledger says answers as the ledger does
+  module _ (ledger : List Frame) (sound : Sound senders R ledger) where
+    heard-same : (s : ℕ) → 1 ≤ s → hasReported (after R ledger) [] s ≡ hasReported R ledger s
+    unfolding named
+    heard-same s h = or-none (hasBit (R .reported + bitsOf ledger) (s - 1)) ∙ sound .heard s h
+
+    pub full-same : isFull senders (after R ledger) [] ≡ isFull senders R ledger
+    full-same = all-cong senders (λ i. hasReported (after R ledger) [] (suc i)) (λ i. hasReported R ledger (suc i)) (λ i l. heard-same (suc i) (omega arith))
+
+    pub own-same : (f : Frame) → firstOf (ownChecks senders (after R ledger) [] f) ≡ firstOf (ownChecks senders R ledger f)
+    own-same f = go (oneOf senders (f .sender)) refl
+      where
+        rest : Bool → Bool → Code
+        rest t h =
+            cond (not t) (code 8)
+            (cond (not (eqb (f .number) (R .number))) (code 14)
+            (cond (not (eqb (length (f .block)) (R .length))) (code 4)
+            (cond (not (allBelow (R .q) (f .block))) (code 3)
+            (cond h (code 11) accepted))))
+
+        go : (t : Bool) → oneOf senders (f .sender) ≡ t
+            → rest (oneOf senders (f .sender)) (hasReported (after R ledger) [] (f .sender))
+            ≡ rest (oneOf senders (f .sender)) (hasReported R ledger (f .sender))
+        go true o =
+            let (low, high) = T-and (leb 1 (f .sender)) (leb (f .sender) senders) (true→T (oneOf senders (f .sender)) o) in
+            ap (rest (oneOf senders (f .sender))) (heard-same (f .sender) (leb→le 1 (f .sender) low))
+        go false o =
+            ap (λ (t : Bool). rest t (hasReported (after R ledger) [] (f .sender))) o
+            ∙ sym (ap (λ (t : Bool). rest t (hasReported R ledger (f .sender))) o)
+
 -- ---- the round of a ledger
 
 module _ (senders : ℕ) (known : Bool) (R : Round) where
@@ -153,7 +184,7 @@ module _ (senders : ℕ) (known : Bool) (R : Round) where
       go k l (no h) = rw (le-ltb k (R .length) (omega arith))
 
   -- the round of a ledger is good where R is
-  after-sums : Good senders R → (ledger : List Frame) → sumsFit (R .q) (R .length) (tab 64 (summed ledger)) ≡ true
+  pub after-sums : Good senders R → (ledger : List Frame) → sumsFit (R .q) (R .length) (tab 64 (summed ledger)) ≡ true
   after-sums g ledger =
       let S : List ℕ = tab 64 (summed ledger) in
       let L : ℕ = R .length in
@@ -183,34 +214,12 @@ module _ (senders : ℕ) (known : Bool) (R : Round) where
         sym (simp (w .0, w .1 .0, w .1 .1 .0, T→true known (heard .0), lt-ltb _ _ (sound .below), after-sums (good-state senders known R e) ledger))
 
     module _ (ledger : List Frame) (sound : Sound senders R ledger) where
-      heard-same : (s : ℕ) → 1 ≤ s → hasReported (after R ledger) [] s ≡ hasReported R ledger s
-      unfolding named
-      heard-same s h = or-none (hasBit (R .reported + bitsOf ledger) (s - 1)) ∙ sound .heard s h
-
       -- a frame is answered as the ledger answers it
       frame-same : (f : Frame) → stepCode senders known (after R ledger) f ≡ firstOf (frameChecks senders known R ledger f)
       frame-same f =
-          sym (rest-decides (stateChecks senders known (after R ledger)) (drop 5 (frameChecks senders known (after R ledger) [] f)) tt (after-state ledger sound))
-          ∙ go (oneOf senders (f .sender)) refl
-          ∙ rest-decides (stateChecks senders known R) (drop 5 (frameChecks senders known R ledger f)) tt e
-        where
-          rest : Bool → Bool → Code
-          rest t h =
-              cond (not t) (code 8)
-              (cond (not (eqb (f .number) (R .number))) (code 14)
-              (cond (not (eqb (length (f .block)) (R .length))) (code 4)
-              (cond (not (allBelow (R .q) (f .block))) (code 3)
-              (cond h (code 11) accepted))))
-
-          go : (t : Bool) → oneOf senders (f .sender) ≡ t
-              → rest (oneOf senders (f .sender)) (hasReported (after R ledger) [] (f .sender))
-              ≡ rest (oneOf senders (f .sender)) (hasReported R ledger (f .sender))
-          go true o =
-              let (low, high) = T-and (leb 1 (f .sender)) (leb (f .sender) senders) (true→T (oneOf senders (f .sender)) o) in
-              ap (rest (oneOf senders (f .sender))) (heard-same (f .sender) (leb→le 1 (f .sender) low))
-          go false o =
-              ap (λ (t : Bool). rest t (hasReported (after R ledger) [] (f .sender))) o
-              ∙ sym (ap (λ (t : Bool). rest t (hasReported R ledger (f .sender))) o)
+          sym (rest-decides (stateChecks senders known (after R ledger)) (ownChecks senders (after R ledger) [] f) tt (after-state ledger sound))
+          ∙ own-same senders R ledger sound f
+          ∙ rest-decides (stateChecks senders known R) (ownChecks senders R ledger f) tt e
 
       step-same : (f : Frame) → (stepped senders known (after R ledger) f ≡ after R (noted senders known R ledger f)) × Sound senders R (noted senders known R ledger f)
       step-same f = go (eqb (firstOf (frameChecks senders known R ledger f) .number) 0) refl
@@ -237,10 +246,9 @@ module _ (senders : ℕ) (known : Bool) (R : Round) where
 
       give-same : (out : List ℕ) → firstOf (giveChecks senders known (after R ledger) [] out) ≡ firstOf (giveChecks senders known R ledger out)
       give-same out =
-          sym (rest-decides (stateChecks senders known (after R ledger)) (drop 5 (giveChecks senders known (after R ledger) [] out)) tt (after-state ledger sound))
-          ∙ ap (λ (t : Bool). cond (not t) (code 12) (cond (not (eqb (length out) (R .length))) (code 4) accepted))
-          (all-cong senders (λ i. hasReported (after R ledger) [] (suc i)) (λ i. hasReported R ledger (suc i)) (λ i l. heard-same (suc i) (omega arith)))
-          ∙ rest-decides (stateChecks senders known R) (drop 5 (giveChecks senders known R ledger out)) tt e
+          sym (rest-decides (stateChecks senders known (after R ledger)) (lentChecks senders (after R ledger) [] (length out)) tt (after-state ledger sound))
+          ∙ ap (λ (t : Bool). cond (not t) (code 12) (cond (not (eqb (length out) (R .length))) (code 4) accepted)) (full-same senders R ledger sound)
+          ∙ rest-decides (stateChecks senders known R) (lentChecks senders R ledger (length out)) tt e
 
     run-same : (frames ledger : List Frame) → Sound senders R ledger
         → (answersOf senders known (after R ledger) frames ≡ ledgerAnswers senders known R ledger frames)
@@ -259,7 +267,7 @@ module _ (senders : ℕ) (known : Bool) (R : Round) where
   unfolding answersOf runOf ledgerAnswers ledgerOf
   idle n [] = (refl, refl, refl)
   idle n (f ∷ frames) =
-      let same : firstOf (frameChecks senders known R [] f) ≡ firstOf (stateChecks senders known R) = refused-decides (stateChecks senders known R) (drop 5 (frameChecks senders known R [] f)) n in
+      let same : firstOf (frameChecks senders known R [] f) ≡ firstOf (stateChecks senders known R) = refused-decides (stateChecks senders known R) (ownChecks senders R [] f) n in
       let no : eqb (firstOf (frameChecks senders known R [] f) .number) 0 ≡ false = ap (λ (c : Code). eqb (c .number) 0) same ∙ n in
       let stays : stepped senders known R f ≡ R = ap (λ (t : Bool). cond t (after R (f ∷ [])) R) no in
       let none : noted senders known R [] f ≡ [] = ap (λ (t : Bool). cond t (f ∷ []) []) no in
@@ -318,7 +326,7 @@ module _ (senders : ℕ) (known : Bool) (R : Round) where
             )
         go false n =
             let (a, r, l) = idle n frames in
-            let here = refused-decides (stateChecks senders known R) (drop 5 (giveChecks senders known R [] out)) n in
+            let here = refused-decides (stateChecks senders known R) (lentChecks senders R [] (length out)) n in
             let no : eqb (giveCode senders known R out .number) 0 ≡ false = ap (λ (c : Code). eqb (c .number) 0) here ∙ n in (
               ap (λ (X : Round). giveCode senders known X out) r ∙ sym (ap (λ (x : List Frame). ledgerGiveCode senders known R x out) l),
               ap (λ (X : Round). sumsAfter senders known X out) r

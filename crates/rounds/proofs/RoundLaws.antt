@@ -2,36 +2,36 @@
 -- whatever bad, late or forged frames among them that were not counted.
 use Prim.Native.Nat.{ℕ, zero, suc, _+_, _-_, _%_, _^_, _≤_, _<_}
 use mathlib.Core.Path.{_≡_, refl, sym, ap, ap₂, _∙_, subst}
-use mathlib.Core.Bool.{Bool, true, false, cond, not, _&&_, _||_}
+use mathlib.Core.Bool.{Bool, true, false, cond, not, _||_}
 use mathlib.Core.Logic.{_≢_}
 use mathlib.Core.List.{List, [], _∷_, _++_}
 use native.Mathlib.Nat.{zero-add, lt-suc-self, not-suc-le-zero}
 use native.Mathlib.Decide.{ℕ-discrete}
 use native.Mathlib.Omega.{arith}
 use lib.Dec.{ltb, eqb}
-use lib.ListN.{length, take, drop, replicate}
+use lib.ListN.{length, take}
 use lib.Pow.{pow-pos}
-use lib.Seq.{getD-take, getD-drop, length-take-le}
+use lib.Seq.{getD-take, length-take-le}
 use borrow.Author.Tests.{not-false, eq-eqb, ne-eqb, lt-ltb}
 use Rattle.refusals.specs.Codes.{code, accepted, firstOf}
 use Rattle.refusals.proofs.CodeLaws.{none-holds, accepted-takes}
-use Rattle.arithmetic.specs.Search.{allTo}
-use Rattle.arithmetic.specs.Primes.{allBelow}
+use Rattle.refusals.proofs.Orders.{rest-decides}
 use Rattle.arithmetic.proofs.Searches.{T→true, true→T, all-at}
-use Rattle.arithmetic.proofs.PrimeLaws.{prime-pos, at-below}
+use Rattle.arithmetic.proofs.PrimeLaws.{prime-pos}
 use Rattle.matrices.specs.Linear.{at, All, zeros}
 use Rattle.secrecy.specs.Lists.{tab}
 use Rattle.secrecy.specs.Counts.{sumTo}
 use Rattle.secrecy.proofs.Sums.{sum-cong, sum-zero}
 use Rattle.secrecy.proofs.ListLaws.{at-tab, tab-at, tab-cong, length-tab}
-use Rattle.refusals.proofs.Orders.{rest-decides}
 use Rattle.rounds.specs.declared.Round.{Round}
 use Rattle.rounds.specs.Ledger.{Frame, named, countedAt, everyone, Carries, Heard}
-use Rattle.rounds.specs.Rounds.{sumsFit, openChecks, opened, after, stateChecks, hasReported, frameChecks, giveChecks, giveCode, sumsAfter, runOf, noted, ledgerOf}
-use Rattle.rounds.proofs.CheckLaws.{Opening, opening-known, Passed, frame-known}
+use Rattle.rounds.specs.Machine.{Opening}
+use Rattle.rounds.specs.Rounds.{openChecks, opened, after, isFull, stateChecks, hasReported, lentChecks, frameChecks, giveCode, sumsAfter, runOf, noted, ledgerOf}
+use Rattle.rounds.proofs.CheckLaws.{opening-known, Passed, frame-known}
 use Rattle.rounds.proofs.ReportedLaws.{no-bits}
 use Rattle.rounds.proofs.StepLaws.{all-cong, or-none}
 use Rattle.rounds.proofs.LedgerLaws.{named-more, counted-more, number-zero, good-run, ledger-give}
+use Rattle.rounds.proofs.Zeros.{zeros-at, length-zeros, zeros-fit}
 
 -- ---- sums of those who are named
 
@@ -56,29 +56,6 @@ sum-more (suc n) b c g i h out is others = go (ℕ-discrete i n) (λ l. sum-more
     go (no ne) ih =
         let t : cond (c n) (g n) 0 ≡ cond (b n) (g n) 0 = top ne in
         omega (arith, ih (omega arith))
-
-zeros-at : (m k : ℕ) → at (replicate m 0) k ≡ 0
-zeros-at zero k = refl
-zeros-at (suc m) zero = refl
-zeros-at (suc m) (suc k) = zeros-at m k
-
-length-zeros : (m : ℕ) → length {A = ℕ} (replicate m 0) ≡ m
-length-zeros zero = refl
-length-zeros (suc m) = ap suc (length-zeros m)
-
-zeros-below : (q m : ℕ) → 0 < q → (l : List ℕ) → ((i : ℕ) → at l i ≡ 0) → allBelow q l ≡ true
-zeros-below q m pos l z = T→true (allBelow q l) (at-below q l (λ i h. subst (λ (x : ℕ). x < q) (sym (z i)) pos))
-
-take-zeros : (L m i : ℕ) → at (take L (replicate m 0)) i ≡ 0
-take-zeros zero m i = refl
-take-zeros (suc L) zero i = refl
-take-zeros (suc L) (suc m) zero = refl
-take-zeros (suc L) (suc m) (suc i) = take-zeros L m i
-
-zeros-fit : (q L m : ℕ) → 0 < q → sumsFit q L (replicate m 0) ≡ true
-zeros-fit q L m pos =
-    ap₂ _&&_ (zeros-below q m pos (take L (replicate m 0)) (take-zeros L m))
-    (zeros-below 1 m (omega arith) (drop L (replicate m 0)) (λ i. getD-drop L (replicate m 0) i 0 ∙ zeros-at m (L + i)))
 
 all-front : {A : Type 0} (P : A → Type 0) (l : List A) (x : A) → All P (l ++ (x ∷ [])) → All P l × P x
 all-front P [] x a = (tt, a .0)
@@ -132,8 +109,7 @@ module _ (clusters size q L number : ℕ) where
   pub heard-named : (ledger : List Frame) (s : ℕ) → hasReported (opened clusters size q L number) ledger s ≡ named ledger s
   heard-named ledger s = ap (λ (t : Bool). t || named ledger s) (no-bits (s - 1))
 
-  pub full-named : (senders : ℕ) (ledger : List Frame)
-      → allTo senders (λ i. hasReported (opened clusters size q L number) ledger (suc i)) ≡ everyone senders ledger
+  pub full-named : (senders : ℕ) (ledger : List Frame) → isFull senders (opened clusters size q L number) ledger ≡ everyone senders ledger
   full-named senders ledger =
       all-cong senders (λ i. hasReported (opened clusters size q L number) ledger (suc i)) (λ i. named ledger (suc i)) (λ i l. heard-named ledger (suc i))
 
@@ -217,7 +193,7 @@ module _ (senders : ℕ) (known : Bool) (clusters size q L number : ℕ) (pass :
     pub give-code : (out : List ℕ) → giveCode senders known (runOf senders known R frames) out ≡ cond (everyone senders counted) (cond (eqb (length out) L) accepted (code 4)) (code 12)
     give-code out =
         ledger-give senders known R (length-zeros 64) frames out .0
-        ∙ sym (rest-decides (stateChecks senders known R) (drop 5 (giveChecks senders known R counted out)) tt opened-state)
+        ∙ sym (rest-decides (stateChecks senders known R) (lentChecks senders R counted (length out)) tt opened-state)
         ∙ ap (λ (t : Bool). cond (not t) (code 12) (cond (not (eqb (length out) L)) (code 4) accepted)) (full-named clusters size q L number senders counted)
         ∙ turn-given (everyone senders counted) (eqb (length out) L)
 

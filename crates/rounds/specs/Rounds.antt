@@ -1,6 +1,7 @@
 -- Rounds: what a step answers and what it hands back, for every state that can be handed in, good or bad. A round is what it was when it was handed
 -- in, and the ledger of the frames counted since; an opened round had nobody on its roll and sums of 0, so that it is its ledger alone.
--- A relay (document 01: gateway) hears the users of its cluster, the server (desk) the relays; all else is said once, for both.
+-- A relay (document 01: gateway) hears the users of its cluster, the server (desk) the relays. This page has what the two share, and the server; Relays
+-- has what a relay holds for the next round.
 use Prim.Native.Nat.{ℕ, suc, _+_, _-_, _%_, _^_}
 use mathlib.Core.Bool.{Bool, true, cond, not, _&&_, _||_}
 use mathlib.Core.List.{List, [], _∷_, _++_}
@@ -15,7 +16,6 @@ use Rattle.matrices.specs.Linear.{at, zeros}
 use Rattle.secrecy.specs.Lists.{tab}
 use Rattle.plans.specs.Plans.{countsFit}
 use Rattle.rounds.specs.declared.Round.{Round}
-use Rattle.rounds.specs.declared.RelayRound.{RelayRound}
 use Rattle.rounds.specs.declared.ServerRound.{ServerRound}
 use Rattle.plans.specs.Plans.{lengthFits}
 use Rattle.rounds.specs.Ledger.{Frame, named, bitsOf, countedAt}
@@ -24,7 +24,7 @@ use Rattle.rounds.specs.Ledger.{Frame, named, bitsOf, countedAt}
 abbrev pub oneOf : ℕ → ℕ → Bool
 oneOf n x = leb 1 x && leb x n
 
--- ---- opening: "1, 2, 9, 8"; `known`: its own number is one of the plan's
+-- ---- opening: "1, 2, 9, 8"; `known`: its cluster is one of the plan's, of a relay; a server has none
 
 abbrev pub openChecks : ℕ → ℕ → ℕ → ℕ → Bool → List (Bool × Code)
 openChecks clusters size q L known =
@@ -73,6 +73,25 @@ after R ledger =
 abbrev pub sumsFit : ℕ → ℕ → List ℕ → Bool
 sumsFit q L sums = allBelow q (take L sums) && allBelow 1 (drop L sums)
 
+module _ (senders : ℕ) where
+  -- what a frame is asked once the state is good; document 02, Q-3: "The order for a frame into a round becomes 8, 14, 4, 3, 11."
+  abbrev pub ownChecks : Round → List Frame → Frame → List (Bool × Code)
+  ownChecks R ledger f =
+      (not (oneOf senders (f .sender)), code 8)
+      ∷ (not (eqb (f .number) (R .number)), code 14)
+      ∷ (not (eqb (length (f .block)) (R .length)), code 4)
+      ∷ (not (allBelow (R .q) (f .block)), code 3)
+      ∷ (hasReported R ledger (f .sender), code 11)
+      ∷ []
+
+  -- has everyone reported?
+  abbrev pub isFull : Round → List Frame → Bool
+  isFull R ledger = allTo senders (λ i. hasReported R ledger (suc i))
+
+  -- "Giving sums: 12, 4", for a lent buffer of so many symbols
+  abbrev pub lentChecks : Round → List Frame → ℕ → List (Bool × Code)
+  lentChecks R ledger room = (not (isFull R ledger), code 12) ∷ (not (eqb room (R .length)), code 4) ∷ []
+
 module _ (senders : ℕ) (known : Bool) where
   abbrev pub stateChecks : Round → List (Bool × Code)
   stateChecks R =
@@ -83,24 +102,11 @@ module _ (senders : ℕ) (known : Bool) where
       ∷ (not (sumsFit (R .q) (R .length) (R .sums)), code 3)
       ∷ []
 
-  -- document 02, Q-3: "The order for a frame into a round becomes 8, 14, 4, 3, 11."
   abbrev pub frameChecks : Round → List Frame → Frame → List (Bool × Code)
-  frameChecks R ledger f =
-      stateChecks R
-      ++ (not (oneOf senders (f .sender)), code 8)
-      ∷ (not (eqb (f .number) (R .number)), code 14)
-      ∷ (not (eqb (length (f .block)) (R .length)), code 4)
-      ∷ (not (allBelow (R .q) (f .block)), code 3)
-      ∷ (hasReported R ledger (f .sender), code 11)
-      ∷ []
+  frameChecks R ledger f = stateChecks R ++ ownChecks senders R ledger f
 
-  -- "Giving sums: 12, 4"
   abbrev pub giveChecks : Round → List Frame → List ℕ → List (Bool × Code)
-  giveChecks R ledger out =
-      stateChecks R
-      ++ (not (allTo senders (λ i. hasReported R ledger (suc i))), code 12)
-      ∷ (not (eqb (length out) (R .length)), code 4)
-      ∷ []
+  giveChecks R ledger out = stateChecks R ++ lentChecks senders R ledger (length out)
 
   -- ---- one step from a state that is handed in
 
@@ -146,42 +152,7 @@ module _ (senders : ℕ) (known : Bool) where
   abbrev pub ledgerSums : Round → List Frame → List ℕ → List ℕ
   ledgerSums R ledger out = ifAccepted (ledgerGiveCode R ledger out) (take (R .length) (after R ledger .sums)) out
 
--- ---- a relay's round: it hears the V users of its cluster, and its own number is one of 1 to U
-
-abbrev pub relayRound : ℕ → Round → RelayRound
-relayRound cluster R = record { cluster = cluster; round = R }
-
-abbrev pub relayOpened : ℕ → ℕ → ℕ → ℕ → ℕ → ℕ → RelayRound
-relayOpened clusters size q L cluster number =
-    ifAccepted (openCode clusters size q L (oneOf clusters cluster)) (relayRound cluster (opened clusters size q L number)) (relayRound 0 noRound)
-
-abbrev pub relayKnown : RelayRound → Bool
-relayKnown R = oneOf (R .round .clusters) (R .cluster)
-
--- a call of `count`: its answer, and the round that it hands back
-abbrev pub relayCode : RelayRound → Frame → Code
-relayCode R f = stepCode (R .round .size) (relayKnown R) (R .round) f
-
-abbrev pub relayNext : RelayRound → Frame → RelayRound
-relayNext R f = relayRound (R .cluster) (stepped (R .round .size) (relayKnown R) (R .round) f)
-
--- calls of `count`, one after the other, each on the round that the one before handed back: the round after them, and the answers
-unfoldable pub relayRun : RelayRound → List Frame → RelayRound
-relayRun R [] = R
-relayRun R (f ∷ frames) = relayRun (relayNext R f) frames
-
-unfoldable pub relayAnswers : RelayRound → List Frame → List Code
-relayAnswers R [] = []
-relayAnswers R (f ∷ frames) = relayCode R f ∷ relayAnswers (relayNext R f) frames
-
--- a call of `give`: its answer, and the lent buffer
-abbrev pub relayGiveCode : RelayRound → List ℕ → Code
-relayGiveCode R out = giveCode (R .round .size) (relayKnown R) (R .round) out
-
-abbrev pub relaySums : RelayRound → List ℕ → List ℕ
-relaySums R out = sumsAfter (R .round .size) (relayKnown R) (R .round) out
-
--- ---- the server's round: it hears the U relays, and has no number of its own
+-- ---- the server's round: it hears the U relays, and has no cluster
 
 abbrev pub serverRound : Round → ServerRound
 serverRound R = record { round = R }
