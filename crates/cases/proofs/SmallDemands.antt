@@ -17,10 +17,10 @@ use Rattle.secrecy.specs.Leaks.{number, Symbols, Agrees, PairLeak}
 use Rattle.plans.specs.Plans.{plan, poolOf}
 use Rattle.vetting.specs.Walk.{InWalk}
 use Rattle.vetting.specs.Verdict.{otherChecks}
-use Rattle.rounds.specs.Ledger.{Frame, frame, named, bitsOf, countedAt}
-use Rattle.rounds.specs.Rounds.{opened, openRound, sumsAfter, runOf, ledgerOf}
-use Rattle.rounds.specs.Rounds.{relayOpened, relayRun, relayAnswers, relaySums, serverRound, serverAnswers}
-use Rattle.demands.specs.Demands.{Uploaded, AllHeard}
+use Rattle.rounds.specs.Ledger.{Frame, frame, named, bitsOf, countedAt, framesOf}
+use Rattle.rounds.specs.Rounds.{opened, openRound, sumsAfter, runOf, ledgerOf, serverRound, serverAnswers}
+use Rattle.rounds.specs.Relays.{relayOpened, relaySums, Event, heard, moves, relayAnswers, relayRun, logAfter}
+use Rattle.demands.specs.Demands.{Reached, AllHeard}
 use Rattle.demands.proofs.Demands.{zero-sum, total-is-sum, equal-numbers, names-first}
 use Rattle.cases.proofs.SmallPool.{rows, N, W, accepts, leaks-to-two}
 
@@ -39,40 +39,52 @@ passes = refl
 pub leak : PairLeak (poolOf (plan 2 2 2 3 5) rows) 3 2
 leak = names-first (plan 2 2 2 3 5) rows passes (record { coalition = 3; observer = 2 }) .0 leaks-to-two .here
 
--- ---- demand 2: round 9, the users' uploads 4, 1 and 2, 2, the relays' sums 0 and 4. In relay 1 and in the server somebody repeats a frame that was counted
--- with another block: it is refused with 11, and nothing is asked of that block.
+-- ---- demand 2: round 9, the users' uploads 4, 1 and 2, 2, the relays' sums 0 and 4, each time the second sender first. Relay 1 is opened in round 8, where
+-- its first user is a round ahead; a frame that repeats it with another block is refused with 11, and nothing is asked of that block. So is one into the server.
 
-pub got : ℕ → List Frame
-got zero = frame 1 9 (4 ∷ []) ∷ frame 1 9 (3 ∷ []) ∷ frame 2 9 (1 ∷ []) ∷ []
-got (suc u) = frame 2 9 (2 ∷ []) ∷ frame 1 9 (2 ∷ []) ∷ []
+pub first : ℕ → ℕ
+first zero = 8
+first (suc u) = 9
+
+pub events : ℕ → List Event
+events zero =
+    heard (frame 1 9 (4 ∷ []))
+    ∷ heard (frame 1 9 (3 ∷ []))
+    ∷ heard (frame 2 8 (0 ∷ []))
+    ∷ heard (frame 1 8 (3 ∷ []))
+    ∷ moves
+    ∷ heard (frame 2 9 (1 ∷ []))
+    ∷ []
+events (suc u) = heard (frame 2 9 (2 ∷ [])) ∷ heard (frame 1 9 (2 ∷ [])) ∷ []
 
 abbrev sums : List Frame
 sums = frame 2 9 (4 ∷ []) ∷ frame 2 9 (1 ∷ []) ∷ frame 1 9 (0 ∷ []) ∷ []
 
 -- the answers, and what relay 1 writes into a lent buffer of one symbol
-pub relay-answers : relayAnswers (relayOpened 2 2 5 1 1 9) (got 0) ≡ accepted ∷ code 11 ∷ accepted ∷ []
-unfolding got relayAnswers tab isPrime allTo allBelow hasBit named bitsOf countedAt
+pub relay-answers : relayAnswers (relayOpened 2 2 5 1 1 8) (events 0)
+    ≡ (accepted, []) ∷ (code 11, []) ∷ (accepted, []) ∷ (accepted, []) ∷ (accepted, []) ∷ (accepted, []) ∷ []
+unfolding events relayAnswers tab isPrime allTo allBelow hasBit named bitsOf countedAt
 relay-answers = refl
 
-pub relay-gives : (out : List ℕ) → length out ≡ 1 → relaySums (relayRun (relayOpened 2 2 5 1 1 9) (got 0)) out ≡ 0 ∷ []
-unfolding got relayRun tab isPrime allTo allBelow hasBit named bitsOf countedAt
+pub relay-gives : (out : List ℕ) → length out ≡ 1 → relaySums (relayRun (relayOpened 2 2 5 1 1 8) (events 0)) out ≡ 0 ∷ []
+unfolding events relayRun tab isPrime allTo allBelow hasBit named bitsOf countedAt
 relay-gives out room = rw room
 
 pub server-answers : serverAnswers (serverRound (openRound 2 2 5 1 true 9)) sums ≡ accepted ∷ code 11 ∷ accepted ∷ []
 unfolding serverAnswers tab isPrime allTo allBelow hasBit named bitsOf countedAt
 server-answers = refl
 
-all-heard : AllHeard (plan 2 2 1 3 5) rows 1 W N 9 got sums
-unfolding got tab runOf isPrime allTo allBelow hasBit named bitsOf countedAt ledgerOf upload reading key sumTo
-all-heard = record { uploads = each; sums = record { carried = (refl, (refl, tt)); full = refl } }
+all-heard : AllHeard (plan 2 2 1 3 5) rows 1 W N 9 first events sums
+unfolding first events tab relayRun logAfter framesOf isPrime allTo allBelow hasBit named bitsOf countedAt ledgerOf upload reading key sumTo
+all-heard = record { relays = each; sums = record { carried = (refl, (refl, tt)); full = refl } }
   where
-    each : (u : ℕ) → u < 2 → Uploaded (plan 2 2 1 3 5) rows 1 W N 9 u (got u)
-    each zero l = record { carried = (refl, (refl, tt)); full = refl }
-    each (suc zero) l = record { carried = (refl, (refl, tt)); full = refl }
+    each : (u : ℕ) → u < 2 → Reached (plan 2 2 1 3 5) rows 1 W N 9 u (first u) (events u)
+    each zero l = record { reached = refl; uploads = record { carried = (refl, (refl, tt)); full = refl } }
+    each (suc zero) l = record { reached = refl; uploads = record { carried = (refl, (refl, tt)); full = refl } }
     each (suc (suc u)) l = absurd (omega arith)
 
 -- "total 4": what the server writes into a lent buffer of one symbol
 pub shown : (out : List ℕ) → length out ≡ 1
     → sumsAfter 2 true (runOf 2 true (opened 2 2 5 1 9) sums) out ≡ 4 ∷ []
 unfolding isPrime allTo tab total reading sumTo
-shown out room = total-is-sum (plan 2 2 1 3 5) rows 1 W N 9 (zero-sum (plan 2 2 1 3 5) rows (sym accepts)) refl got sums all-heard out room .1
+shown out room = total-is-sum (plan 2 2 1 3 5) rows 1 W N 9 (zero-sum (plan 2 2 1 3 5) rows (sym accepts)) refl first events sums all-heard out room .1

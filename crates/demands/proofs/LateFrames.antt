@@ -5,14 +5,14 @@ use mathlib.Core.Path.{_≡_, refl, sym, ap, _∙_}
 use mathlib.Core.Bool.{Bool, true, false, cond, not, _&&_, _||_}
 use mathlib.Core.List.{[]}
 use lib.Dec.{eqb}
-use lib.ListN.{length, drop}
+use lib.ListN.{length}
 use Rattle.refusals.specs.declared.Code.{Code}
 use Rattle.refusals.specs.Codes.{code, accepted, isAccepted, firstOf}
 use Rattle.refusals.proofs.Orders.{first-decides, rest-decides}
 use Rattle.arithmetic.specs.Primes.{allBelow}
 use Rattle.rounds.specs.declared.Round.{Round}
 use Rattle.rounds.specs.Ledger.{Frame}
-use Rattle.rounds.specs.Rounds.{oneOf, hasReported, stateChecks, frameChecks, stepCode}
+use Rattle.rounds.specs.Rounds.{oneOf, hasReported, stateChecks, ownChecks, stepCode}
 use Rattle.rounds.proofs.LedgerLaws.{number-zero}
 use Rattle.demands.specs.LateFrames.{formerChecks, formerCode, LateAnswers}
 
@@ -46,12 +46,12 @@ late-answers senders known R f = go (isAccepted (firstOf (stateChecks senders kn
         ≡ cond (isAccepted (firstOf (stateChecks senders known R)) && late (formerCode senders known R f)) (code 14) (formerCode senders known R f)
     go true n =
         let e : accepted ≡ firstOf (stateChecks senders known R) = number-zero (stateChecks senders known R) tt n in
-        sym (rest-decides (stateChecks senders known R) (drop 5 (frameChecks senders known R [] f)) tt e)
+        sym (rest-decides (stateChecks senders known R) (ownChecks senders R [] f) tt e)
         ∙ orders (not (oneOf senders (f .sender))) (not (eqb (f .number) (R .number))) (not (eqb (length (f .block)) (R .length)))
         (not (allBelow (R .q) (f .block))) (hasReported R [] (f .sender))
         ∙ ap (λ (c : Code). cond (late c) (code 14) c) (rest-decides (stateChecks senders known R) (formerChecks senders known R f) tt e)
         ∙ sym (ap (λ (t : Bool). cond (t && late (formerCode senders known R f)) (code 14) (formerCode senders known R f)) n)
     go false n =
-        sym (first-decides (stateChecks senders known R) (drop 5 (frameChecks senders known R [] f)) n)
+        sym (first-decides (stateChecks senders known R) (ownChecks senders R [] f) n)
         ∙ first-decides (stateChecks senders known R) (formerChecks senders known R f) n
         ∙ sym (ap (λ (t : Bool). cond (t && late (formerCode senders known R f)) (code 14) (formerCode senders known R f)) n)

@@ -1,7 +1,7 @@
--- The demands, sentence by sentence. A statement is a type, and proofs/Demands has something of each. The promises of the code name the same definitions:
--- the vet's answer is `verdict`, an upload `uploadOf`, a round after some calls `runOf`, and so on. What stands in quotation marks is the papers', letter by
--- letter: the customer's demands, and document 01. The papers' meter, gateway and desk are our user, relay and server; gang, watcher and sight are coalition,
--- observer and view; key block and key tape are source key and key stream.
+-- Demands 2 and 3, sentence by sentence; demand 1 is the promises. A statement is a type, and proofs/Demands has a proof of each. The promises name the same definitions:
+-- the vet's answer is `verdict`, an upload `uploadOf`, a round after some calls `runOf` or `relayRun`, and so on. What stands in quotation marks is the papers',
+-- letter by letter: the customer's demands, and document 01. The papers' meter, gateway and desk are our user, relay and server; gang, watcher and sight are
+-- coalition, observer and view; key block and key tape are source key and key stream.
 use Prim.Native.Nat.{ℕ, suc, _+_, _-_, _*_, _%_, _≤_, _<_}
 use mathlib.Core.Path.{_≡_}
 use mathlib.Core.Logic.{_↔_}
@@ -24,10 +24,10 @@ use Rattle.masking.specs.Blocks.{uploadOf, blockCode, unmaskAfter}
 use Rattle.rounds.specs.declared.Round.{Round}
 use Rattle.rounds.specs.declared.RelayRound.{RelayRound}
 use Rattle.rounds.specs.declared.ServerRound.{ServerRound}
-use Rattle.rounds.specs.Ledger.{Frame, Heard}
+use Rattle.rounds.specs.Ledger.{Frame, framesOf, Heard}
 use Rattle.rounds.specs.Rounds.{oneOf, openChecks, opened, stateChecks, after, giveCode, sumsAfter, answersOf, runOf}
-use Rattle.rounds.specs.Rounds.{ledgerAnswers, ledgerOf, ledgerGiveCode, ledgerSums}
-use Rattle.rounds.specs.Rounds.{relayRound, relayKnown, relayRun, relayAnswers, serverRound, serverRun, serverAnswers}
+use Rattle.rounds.specs.Rounds.{ledgerAnswers, ledgerOf, ledgerGiveCode, ledgerSums, serverRound, serverRun, serverAnswers}
+use Rattle.rounds.specs.Relays.{relayRound, nothing, relayGiveCode, relaySums, Event, relayRun, logOf}
 use Rattle.records.specs.Records.{recordOf, planRead, tableRead, start, readVerdict, writeVerdict}
 use Rattle.streams.specs.Streams.{drawn, positionAfterAll, symbolsDrawn, placesDrawn}
 
@@ -63,46 +63,57 @@ module _ (P : Plan) (K : List ℕ) (L : ℕ) (W N : List ℕ) where
     abbrev sent : ℕ → ℕ → List ℕ
     sent u v = tab L (upload pool L W N (u * P .size + (v - 1)))
 
-    -- after these frames a round gives its sums out, into any buffer of L symbols, and they are f 0, f 1, ..
-    abbrev gives : ℕ → Bool → List Frame → (ℕ → ℕ) → Type 0
-    gives senders known frames f =
-        (out : List ℕ) → length out ≡ L
-        → (giveCode senders known (runOf senders known opening frames) out ≡ accepted)
-        × (sumsAfter senders known (runOf senders known opening frames) out ≡ tab L f)
+    -- relay u, from 0, opened in round `first`
+    abbrev relayOpening : ℕ → ℕ → RelayRound
+    relayOpening u first = relayRound (suc u) (opened (P .clusters) (P .size) (P .q) L first) nothing
 
-    -- relay u, from 0, gets any frames, in any order: of those that it counted each carries its sender's upload, and everyone's is among them. Nothing is asked
-    -- of a frame that it did not count
-    abbrev pub Uploaded : ℕ → List Frame → Type 0
-    Uploaded u frames = Heard (P .size) (sent u) (ledgerOf (P .size) (oneOf (P .clusters) (suc u)) opening [] frames)
+    -- what it counted of this round in the course of some events
+    abbrev countedOf : ℕ → ℕ → List Event → List Frame
+    countedOf u first events = framesOf round (logOf (relayOpening u first) events .counted)
 
-    -- the relay sums, (26):
+    -- Relay u is opened in some round, and any events come, in any order, until it is in this one. Of the frames of this round that it counted, each carries its
+    -- sender's upload, and everyone's is among them. Nothing is asked of the frames that it did not count.
+    pub record Reached (u first : ℕ) (events : List Event) : Type 0 where
+      pub reached : logOf (relayOpening u first) events .number ≡ round
+      pub uploads : Heard (P .size) (sent u) (countedOf u first events)
+
+    -- the relay sums, (26), as the relay gives them out into any buffer of L symbols:
     abbrev pub RelaySumsAre : Type 0
     RelaySumsAre =
-        (u : ℕ) (frames : List Frame) → opens (oneOf (P .clusters) (suc u)) → Uploaded u frames
-        → gives (P .size) (oneOf (P .clusters) (suc u)) frames (relaySum pool L W N u)
+        (u first : ℕ) (events : List Event) → opens (oneOf (P .clusters) (suc u)) → Reached u first events
+        → (out : List ℕ) → length out ≡ L
+        → (relayGiveCode (relayRun (relayOpening u first) events) out ≡ accepted)
+        × (relaySums (relayRun (relayOpening u first) events) out ≡ tab L (relaySum pool L W N u))
 
-    -- what relay s, from 1, holds after the frames that it got
-    abbrev relayed : (ℕ → List Frame) → ℕ → List ℕ
-    relayed got s = take L (runOf (P .size) (oneOf (P .clusters) s) opening (got (s - 1)) .sums)
+    -- what relay s, from 1, holds after its events
+    abbrev relayed : (ℕ → ℕ) → (ℕ → List Event) → ℕ → List ℕ
+    relayed first events s = take L (relayRun (relayOpening (s - 1) (first (s - 1))) (events (s - 1)) .round .sums)
 
-    -- each relay gets such frames, and the server any frames, in any order: of those that it counted each carries what its relay holds, and every relay's is
-    -- among them
-    pub record AllHeard (got : ℕ → List Frame) (frames : List Frame) : Type 0 where
-      pub uploads : (u : ℕ) → u < P .clusters → Uploaded u (got u)
-      pub sums : Heard (P .clusters) (relayed got) (ledgerOf (P .clusters) true opening [] frames)
+    -- each relay reaches this round so, and the server, opened in it, gets any frames, in any order; those that it counted carry what the relays hold, and every
+    -- relay's is among them
+    pub record AllHeard (first : ℕ → ℕ) (events : ℕ → List Event) (frames : List Frame) : Type 0 where
+      pub relays : (u : ℕ) → u < P .clusters → Reached u (first u) (events u)
+      pub sums : Heard (P .clusters) (relayed first events) (ledgerOf (P .clusters) true opening [] frames)
+
+    -- after these frames the server gives f 0, f 1, .. out, into any buffer of L symbols
+    abbrev gives : List Frame → (ℕ → ℕ) → Type 0
+    gives frames f =
+        (out : List ℕ) → length out ≡ L
+        → (giveCode (P .clusters) true (runOf (P .clusters) true opening frames) out ≡ accepted)
+        × (sumsAfter (P .clusters) true (runOf (P .clusters) true opening frames) out ≡ tab L f)
 
     -- the total, the sum of the relay sums, whatever the table:
     abbrev pub TotalIs : Type 0
     TotalIs =
-        opens true → (got : ℕ → List Frame) (frames : List Frame) → AllHeard got frames
-        → gives (P .clusters) true frames (λ p. sumTo (P .clusters) (λ u. relaySum pool L W N u p) % P .q)
+        opens true → (first : ℕ → ℕ) (events : ℕ → List Event) (frames : List Frame) → AllHeard first events frames
+        → gives frames (λ p. sumTo (P .clusters) (λ u. relaySum pool L W N u p) % P .q)
 
     -- "When one key block under a zero-sum table masks each meter once, the total is the sum of the readings modulo the prime, in whatever order frames arrive"
     abbrev pub TotalIsSum : Type 0
     TotalIsSum =
         ZeroSum pool → opens true
-        → (got : ℕ → List Frame) (frames : List Frame) → AllHeard got frames
-        → gives (P .clusters) true frames (total pool L W)
+        → (first : ℕ → ℕ) (events : ℕ → List Event) (frames : List Frame) → AllHeard first events frames
+        → gives frames (total pool L W)
 
 -- the key table of a plan that the vet accepts is a zero-sum table
 abbrev pub AcceptedIsZeroSum : Type 0
@@ -146,19 +157,16 @@ module _ (P : Plan) (K : List ℕ) where
 
 -- ---- rounds, records and key streams
 
--- calls of `count`, one after the other, are the runs that are spoken of above
+-- calls of the server's `count`, one after the other, are the runs that are spoken of above; a relay's calls are `relayRun` as it stands
 abbrev pub CallsAreRuns : Type 0
 CallsAreRuns =
-    (frames : List Frame)
-    → ((R : RelayRound)
-    → (relayRun R frames ≡ relayRound (R .cluster) (runOf (R .round .size) (relayKnown R) (R .round) frames))
-    × (relayAnswers R frames ≡ answersOf (R .round .size) (relayKnown R) (R .round) frames))
-    × ((R : ServerRound)
+    (R : ServerRound) (frames : List Frame)
     → (serverRun R frames ≡ serverRound (runOf (R .round .clusters) true (R .round) frames))
-    × (serverAnswers R frames ≡ answersOf (R .round .clusters) true (R .round) frames))
+    × (serverAnswers R frames ≡ answersOf (R .round .clusters) true (R .round) frames)
 
 -- "A round answers as a roll of names and a running sum would": for every state that is handed in, good or bad, and any frames, of so many senders: the
--- answers and the round after them, and then, into any lent buffer, the answer when the sums are asked for and what the buffer holds
+-- answers and the round after them, and then, into any lent buffer, the answer when the sums are asked for and what the buffer holds. Of a relay, which also
+-- moves on, NextRound says it
 abbrev pub AnswersAsLedger : Type 0
 AnswersAsLedger =
     (senders : ℕ) (known : Bool) (R : Round) → length (R .sums) ≡ 64 → (frames : List Frame)

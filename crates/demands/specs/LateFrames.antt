@@ -1,5 +1,5 @@
--- A frame of another round is called late, whatever its block (document 02, Q-3). The order itself is `frameChecks` of rounds; here stands what the request
--- changed and what it did not.
+-- A frame of another round is called late, whatever its block (document 02, Q-3); to a relay, since Q-6, a frame of every round but r and r + 1, to which
+-- `AsBefore` of NextRound carries this page over. The order itself is `ownChecks` of rounds; here stands what the request changed and what it did not.
 use Prim.Native.Nat.{ℕ}
 use mathlib.Core.Path.{_≡_}
 use mathlib.Core.Bool.{Bool, cond, not, _&&_, _||_}
