@@ -1,12 +1,13 @@
 /*
- * Kortyghai for callers in C: plans, their records, the vet, key tables, keys, uploads, frames, sums.
+ * Kortyghai for callers in C: plans, their records, the vet, key tables, keys, uploads, and a relay's rounds.
  *
  * Every function answers one number of 64 bits, which packs the number of the refusal (0: nothing is refused) and its two
  * details. Take them out by the three macros below. A refused call writes nothing.
  *
- * A run of bytes or symbols is passed as its address and its length, the length counted in bytes or symbols. The address is
- * never null, also where the length is 0. A buffer that a call writes to overlaps no other buffer of that call. Nothing is kept
- * between calls, nothing is allocated, and calls from several threads at once don't disturb each other.
+ * A run of bytes or symbols is passed as its address and its length, the length counted in bytes or symbols. A row of 64 sums,
+ * and a number that a call may change, are passed as an address alone. No address is null, also where a length is 0. What a
+ * call writes to overlaps nothing else that is passed to that call. Nothing is kept between calls, nothing is allocated, and
+ * calls from several threads at once don't disturb each other.
  *
  * A symbol is a whole number below the plan's prime q, held in 16 bits. A plan has
  *
@@ -46,10 +47,10 @@ extern "C" {
 #define KORTYGHAI_UNKNOWN_NUMBER 8    /* a user or relay number that the plan doesn't have */
 #define KORTYGHAI_BAD_BLOCK_LENGTH 9  /* the block length is not from 1 to 64 */
 #define KORTYGHAI_LIMIT_TOO_LARGE 10  /* the table maker is given T not less than (U - 1) x V */
-#define KORTYGHAI_ALREADY_REPORTED 11 /* this sender is already on the roll */
-#define KORTYGHAI_NOT_FULL 12         /* sums wanted while the roll is not full */
+#define KORTYGHAI_ALREADY_REPORTED 11 /* this sender has already reported in the frame's round */
+#define KORTYGHAI_NOT_FULL 12         /* sums, or the next round, wanted while a user has not reported */
 #define KORTYGHAI_STREAM_TOO_SHORT 13 /* the key stream has fewer symbols left than a block needs */
-#define KORTYGHAI_OTHER_ROUND 14      /* the frame's round number is another one */
+#define KORTYGHAI_OTHER_ROUND 14      /* the frame is of another round, or there is no next round */
 
 /* Exact lengths of two lent buffers, and the most bytes that kortyghai_vet_record takes. */
 #define KORTYGHAI_READ_TABLE 256
@@ -142,38 +143,58 @@ uint64_t kortyghai_unmask(uint16_t q, size_t length, const uint16_t *upload, siz
                           size_t key_len, uint16_t *out, size_t out_len);
 
 /*
- * Counts a frame into a relay's round. The round's state is handed over in numbers; who has reported and the sums are lent, and
- * stand afterwards as the step leaves them. A new round has reported 0 and 64 sums of 0.
+ * Counts a frame into a relay's round, or into the next one, whose frames may come early. The relay's state is handed over in
+ * numbers. Who has reported and the sums are lent, for both rounds, and stand afterwards as the call leaves them. A new relay has
+ * 0 in reported and in ahead, and 64 sums of 0 in sums and in held.
  *
  *     length     L, from 1 to 64
  *     cluster    the relay's own number, from 1 to U
- *     number     the round's number
- *     reported   one bit for each user of the cluster: user v has bit v - 1
- *     sums       exactly 64 symbols, 0 past the first L
+ *     number     the round's number r
+ *     reported   one bit for each user of the cluster who has reported in round r: user v has bit v - 1
+ *     sums       the sums of round r, exactly 64 symbols, 0 past the first L
+ *     ahead      the same bits for round r + 1
+ *     held       the sums of round r + 1, exactly 64 symbols, 0 past the first L
  *     sender     the user's number v, from 1 to V
- *     said       the round number that the frame has
+ *     said       the round number that the frame has: r, or r + 1 (after round 4,294,967,295 there is no next)
  *     block      exactly L symbols
  *
- * Refuses, the first that holds: of the state 1, 2, 9, 8, 3, then of the frame 8, 14, 4, 3, 11.
+ * Refuses, the first that holds: of the state 1, 2, 9, 8 (cluster, or a bit in reported or ahead that is no user's), 3 (in sums
+ * or held, a symbol not below q, or one past the first L that is not 0), then of the frame 8 (sender), 14 (said is neither
+ * round's number), 4, 3, 11.
  */
 uint64_t kortyghai_count_frame(size_t clusters, size_t size, uint16_t q, size_t length, size_t cluster, uint32_t number,
-                               uint16_t *reported, uint16_t *sums, size_t sender, uint32_t said, const uint16_t *block,
-                               size_t block_len);
+                               uint16_t *reported, uint16_t *sums, uint16_t *ahead, uint16_t *held, size_t sender,
+                               uint32_t said, const uint16_t *block, size_t block_len);
 
 /*
- * A relay's sums, once every user of its cluster has reported. The round's state is handed over as above; none of it changes.
+ * Moves a relay on to its next round, once every user of its cluster has reported: number becomes r + 1, reported and sums
+ * become what stood in ahead and held, and these become 0. All five are lent, and are otherwise as above. Ask for the sums
+ * before: this call writes over them.
+ *
+ * Refuses, the first that holds: of the state 1, 2, 9, 8, 3, as above, then 14 (after round 4,294,967,295 there is no next),
+ * 12 (a user has not reported in round r).
+ */
+uint64_t kortyghai_advance(size_t clusters, size_t size, uint16_t q, size_t length, size_t cluster, uint32_t *number,
+                           uint16_t *reported, uint16_t *sums, uint16_t *ahead, uint16_t *held);
+
+/*
+ * A relay's sums of round r, once every user of its cluster has reported in it. The relay's state is handed over as above; none
+ * of it changes. What is held for the next round is checked with the rest, and not given.
  *
  *     length     L, from 1 to 64
  *     cluster    the relay's own number, from 1 to U
- *     number     the round's number
+ *     number     the round's number r
  *     reported   one bit for each user of the cluster
  *     sums       exactly 64 symbols, 0 past the first L
+ *     ahead      the bits for the next round
+ *     held       its sums, exactly 64 symbols, 0 past the first L
  *     out        exactly L symbols: the sums are put there
  *
- * Refuses, the first that holds: of the state 1, 2, 9, 8, 3, then 12 (a user has not reported), 4.
+ * Refuses, the first that holds: of the state 1, 2, 9, 8, 3, as above, then 12 (a user has not reported in round r), 4 (out).
  */
 uint64_t kortyghai_give_sums(size_t clusters, size_t size, uint16_t q, size_t length, size_t cluster, uint32_t number,
-                             uint16_t reported, const uint16_t *sums, uint16_t *out, size_t out_len);
+                             uint16_t reported, const uint16_t *sums, uint16_t ahead, const uint16_t *held, uint16_t *out,
+                             size_t out_len);
 
 #ifdef __cplusplus
 }

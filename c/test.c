@@ -165,31 +165,39 @@ static void blocks(void) {
 static void frames(void) {
     /* cluster 1 of the small pool in round 9: uploads 4 and 1 sum to 0 */
     const uint16_t first[1] = {4}, second[1] = {1}, bad[1] = {5};
-    uint16_t reported = 0, sums[64] = {0}, out[2];
+    uint16_t reported = 0, sums[64] = {0}, ahead = 0, held[64] = {0}, out[2];
+    uint32_t number = 9;
     mark(out, 2);
-    CHECK(is(kortyghai_count_frame(2, 2, 5, 1, 1, 9, &reported, sums, 1, 9, first, 1), 0, 0, 0));
+    CHECK(is(kortyghai_count_frame(2, 2, 5, 1, 1, 9, &reported, sums, &ahead, held, 1, 9, first, 1), 0, 0, 0));
     CHECK(reported == 1 && sums[0] == 4);
-    CHECK(is(kortyghai_give_sums(2, 2, 5, 1, 1, 9, reported, sums, out, 1), 12, 0, 0));
-    CHECK(is(kortyghai_count_frame(2, 2, 5, 1, 1, 9, &reported, sums, 1, 9, second, 1), 11, 0, 0));
-    CHECK(is(kortyghai_count_frame(2, 2, 5, 1, 1, 9, &reported, sums, 2, 8, second, 1), 14, 0, 0));
-    /* a late frame is called late, whatever its block, and an unknown sender unknown */
-    CHECK(is(kortyghai_count_frame(2, 2, 5, 1, 1, 9, &reported, sums, 2, 8, second, 0), 14, 0, 0));
-    CHECK(is(kortyghai_count_frame(2, 2, 5, 1, 1, 9, &reported, sums, 2, 8, bad, 1), 14, 0, 0));
-    CHECK(is(kortyghai_count_frame(2, 2, 5, 1, 1, 9, &reported, sums, 3, 8, second, 0), 8, 0, 0));
-    CHECK(is(kortyghai_count_frame(2, 2, 5, 1, 1, 9, &reported, sums, 2, 9, bad, 1), 3, 0, 0));
-    CHECK(is(kortyghai_count_frame(2, 2, 5, 1, 1, 9, &reported, sums, 2, 9, second, 0), 4, 0, 0));
-    CHECK(is(kortyghai_count_frame(2, 2, 5, 1, 1, 9, &reported, sums, 3, 9, second, 1), 8, 0, 0));
-    CHECK(is(kortyghai_count_frame(2, 2, 5, 1, 3, 9, &reported, sums, 2, 9, second, 1), 8, 0, 0));
-    CHECK(is(kortyghai_count_frame(2, 2, 9, 1, 1, 9, &reported, sums, 2, 9, second, 1), 2, 0, 0));
+    CHECK(is(kortyghai_give_sums(2, 2, 5, 1, 1, 9, reported, sums, ahead, held, out, 1), 12, 0, 0));
+    CHECK(is(kortyghai_count_frame(2, 2, 5, 1, 1, 9, &reported, sums, &ahead, held, 1, 9, second, 1), 11, 0, 0));
+    CHECK(is(kortyghai_count_frame(2, 2, 5, 1, 1, 9, &reported, sums, &ahead, held, 2, 8, second, 1), 14, 0, 0));
+    CHECK(is(kortyghai_count_frame(2, 2, 5, 1, 1, 9, &reported, sums, &ahead, held, 2, 9, bad, 1), 3, 0, 0));
+    CHECK(is(kortyghai_count_frame(2, 2, 5, 1, 1, 9, &reported, sums, &ahead, held, 2, 9, second, 0), 4, 0, 0));
+    CHECK(is(kortyghai_count_frame(2, 2, 5, 1, 1, 9, &reported, sums, &ahead, held, 3, 9, second, 1), 8, 0, 0));
+    CHECK(is(kortyghai_count_frame(2, 2, 5, 1, 3, 9, &reported, sums, &ahead, held, 2, 9, second, 1), 8, 0, 0));
+    CHECK(is(kortyghai_count_frame(2, 2, 9, 1, 1, 9, &reported, sums, &ahead, held, 2, 9, second, 1), 2, 0, 0));
     CHECK(reported == 1 && sums[0] == 4 && sums[1] == 0);
-    CHECK(is(kortyghai_count_frame(2, 2, 5, 1, 1, 9, &reported, sums, 2, 9, second, 1), 0, 0, 0));
+    CHECK(is(kortyghai_count_frame(2, 2, 5, 1, 1, 9, &reported, sums, &ahead, held, 2, 9, second, 1), 0, 0, 0));
     CHECK(reported == 3 && sums[0] == 0);
-    CHECK(is(kortyghai_give_sums(2, 2, 5, 1, 1, 9, reported, sums, out, 2), 4, 0, 0));
-    CHECK(is(kortyghai_give_sums(2, 2, 5, 1, 1, 9, 7, sums, out, 1), 8, 0, 0));
-    CHECK(is(kortyghai_give_sums(9, 2, 5, 1, 1, 9, reported, sums, out, 1), 1, 0, 0));
+    CHECK(is(kortyghai_give_sums(2, 2, 5, 1, 1, 9, reported, sums, ahead, held, out, 2), 4, 0, 0));
+    CHECK(is(kortyghai_give_sums(2, 2, 5, 1, 1, 9, 7, sums, ahead, held, out, 1), 8, 0, 0));
+    CHECK(is(kortyghai_give_sums(9, 2, 5, 1, 1, 9, reported, sums, ahead, held, out, 1), 1, 0, 0));
     CHECK(marked(out, 2));
-    CHECK(is(kortyghai_give_sums(2, 2, 5, 1, 1, 9, reported, sums, out, 1), 0, 0, 0));
+    CHECK(is(kortyghai_give_sums(2, 2, 5, 1, 1, 9, reported, sums, ahead, held, out, 1), 0, 0, 0));
     CHECK(out[0] == 0 && marked(out + 1, 1));
+    /* a frame of round 10 comes early, and a late one without symbols; then on to round 10 with what is held */
+    CHECK(is(kortyghai_count_frame(2, 2, 5, 1, 1, 9, &reported, sums, &ahead, held, 2, 10, first, 1), 0, 0, 0));
+    CHECK(is(kortyghai_count_frame(2, 2, 5, 1, 1, 9, &reported, sums, &ahead, held, 2, 10, second, 1), 11, 0, 0));
+    CHECK(is(kortyghai_count_frame(2, 2, 5, 1, 1, 9, &reported, sums, &ahead, held, 1, 8, bad, 0), 14, 0, 0));
+    CHECK(reported == 3 && sums[0] == 0 && ahead == 2 && held[0] == 4);
+    CHECK(is(kortyghai_advance(2, 2, 5, 1, 1, &number, &reported, sums, &ahead, held), 0, 0, 0));
+    CHECK(number == 10 && reported == 2 && sums[0] == 4 && ahead == 0 && held[0] == 0);
+    CHECK(is(kortyghai_advance(2, 2, 5, 1, 1, &number, &reported, sums, &ahead, held), 12, 0, 0));
+    number = 4294967295u;
+    CHECK(is(kortyghai_advance(2, 2, 5, 1, 1, &number, &reported, sums, &ahead, held), 14, 0, 0));
+    CHECK(number == 4294967295u && reported == 2 && sums[0] == 4);
 }
 
 int main(void) {

@@ -31,10 +31,24 @@ extern "C" {
         number: u32,
         reported: *mut u16,
         sums: *mut [u16; 64],
+        ahead: *mut u16,
+        held: *mut [u16; 64],
         sender: usize,
         said: u32,
         block: *const u16,
         symbols: usize,
+    ) -> u64;
+    fn kortyghai_advance(
+        clusters: usize,
+        size: usize,
+        q: u16,
+        length: usize,
+        cluster: usize,
+        number: *mut u32,
+        reported: *mut u16,
+        sums: *mut [u16; 64],
+        ahead: *mut u16,
+        held: *mut [u16; 64],
     ) -> u64;
 }
 
@@ -88,10 +102,29 @@ pub fn count(r: &mut Relay, sender: usize, said: u32, block: &[u16]) -> Code {
             r.number,
             &mut r.reported,
             &mut r.sums,
+            &mut r.ahead,
+            &mut r.held,
             sender,
             said,
             block.as_ptr(),
             block.len(),
+        )
+    })
+}
+
+pub fn advance(r: &mut Relay) -> Code {
+    unpack(unsafe {
+        kortyghai_advance(
+            r.clusters,
+            r.size,
+            r.q,
+            r.length,
+            r.cluster,
+            &mut r.number,
+            &mut r.reported,
+            &mut r.sums,
+            &mut r.ahead,
+            &mut r.held,
         )
     })
 }

@@ -8,7 +8,7 @@ use std::hint::black_box;
 /// What the proved functions may take, of the plain ones' time.
 const BAR: f64 = 1.2;
 
-/// A relay's round.
+/// A relay's round, with what it holds for the next one.
 #[derive(Clone, PartialEq, Debug)]
 pub struct Relay {
     pub clusters: usize,
@@ -19,11 +19,13 @@ pub struct Relay {
     pub number: u32,
     pub reported: u16,
     pub sums: [u16; 64],
+    pub ahead: u16,
+    pub held: [u16; 64],
 }
 
 impl Relay {
     pub fn open(clusters: usize, size: usize, q: u16, length: usize) -> Relay {
-        Relay { clusters, size, q, length, cluster: 1, number: 7, reported: 0, sums: [0; 64] }
+        Relay { clusters, size, q, length, cluster: 1, number: 7, reported: 0, sums: [0; 64], ahead: 0, held: [0; 64] }
     }
 }
 
@@ -91,8 +93,12 @@ pub fn unmask(q: u16, length: usize, upload: &[u16], key: &[u16], out: &mut [u16
     Code(code, 0, 0)
 }
 
-/// A state: "1, 2, 9, 8, 3". A frame: "8, 14, 4, 3, 11."
-fn frame_code(r: &Relay, sender: usize, said: u32, block: &[u16]) -> u16 {
+fn row_fits(q: u16, length: usize, sums: &[u16; 64]) -> bool {
+    all_below(q, &sums[..length]) && sums[length..].iter().all(|&x| x == 0)
+}
+
+/// "1, 2, 9, 8, 3", of both rolls and both rows of sums.
+fn state_code(r: &Relay) -> u16 {
     let (u, v) = (r.clusters, r.size);
     if !(1..=8).contains(&u) || !(1..=8).contains(&v) || u * v > 16 {
         return 1;
@@ -103,16 +109,30 @@ fn frame_code(r: &Relay, sender: usize, said: u32, block: &[u16]) -> u16 {
     if !(1..=64).contains(&r.length) {
         return 9;
     }
-    if !(1..=u).contains(&r.cluster) || r.reported >> v != 0 {
+    if !(1..=u).contains(&r.cluster) || r.reported >> v != 0 || r.ahead >> v != 0 {
         return 8;
     }
-    if !all_below(r.q, &r.sums[..r.length]) || r.sums[r.length..].iter().any(|&x| x != 0) {
+    if !row_fits(r.q, r.length, &r.sums) || !row_fits(r.q, r.length, &r.held) {
         return 3;
     }
-    if !(1..=v).contains(&sender) {
+    0
+}
+
+/// Whether a frame's number is that of the next round.
+fn is_ahead(r: &Relay, said: u32) -> bool {
+    r.number < u32::MAX && said == r.number + 1
+}
+
+/// A state, then a frame: "8, 14, 4, 3, 11."
+fn frame_code(r: &Relay, sender: usize, said: u32, block: &[u16]) -> u16 {
+    let code = state_code(r);
+    if code != 0 {
+        return code;
+    }
+    if !(1..=r.size).contains(&sender) {
         return 8;
     }
-    if said != r.number {
+    if said != r.number && !is_ahead(r, said) {
         return 14;
     }
     if block.len() != r.length {
@@ -121,7 +141,8 @@ fn frame_code(r: &Relay, sender: usize, said: u32, block: &[u16]) -> u16 {
     if !all_below(r.q, block) {
         return 3;
     }
-    if r.reported >> (sender - 1) & 1 == 1 {
+    let roll = if said == r.number { r.reported } else { r.ahead };
+    if roll >> (sender - 1) & 1 == 1 {
         return 11;
     }
     0
@@ -131,10 +152,28 @@ fn frame_code(r: &Relay, sender: usize, said: u32, block: &[u16]) -> u16 {
 pub fn count(r: &mut Relay, sender: usize, said: u32, block: &[u16]) -> Code {
     let code = frame_code(r, sender, said, block);
     if code == 0 {
-        r.reported |= 1 << (sender - 1);
-        for (sum, &x) in r.sums.iter_mut().zip(block) {
+        let (roll, sums) = if said == r.number { (&mut r.reported, &mut r.sums) } else { (&mut r.ahead, &mut r.held) };
+        *roll |= 1 << (sender - 1);
+        for (sum, &x) in sums.iter_mut().zip(block) {
             *sum = add(r.q, *sum, x);
         }
+    }
+    Code(code, 0, 0)
+}
+
+/// Moving on: a state's checks, then 14, 12.
+#[inline(never)]
+pub fn advance(r: &mut Relay) -> Code {
+    let mut code = state_code(r);
+    if code == 0 && r.number == u32::MAX {
+        code = 14;
+    }
+    if code == 0 && r.reported != (1 << r.size) - 1 {
+        code = 12;
+    }
+    if code == 0 {
+        (r.number, r.reported, r.sums) = (r.number + 1, r.ahead, r.held);
+        (r.ahead, r.held) = (0, [0; 64]);
     }
     Code(code, 0, 0)
 }
@@ -225,21 +264,39 @@ fn measure_blocks(s: &mut Seeded, q: u16) -> bool {
     line(&format!("unmask, q {q}, ns a symbol"), 1e9 / 64.0, x, y) && met
 }
 
-/// Eight frames of 64 symbols into a round, then the round anew.
-fn frames(n: usize, q: u16, block: &[u16], count: impl Fn(&mut Relay, usize, u32, &[u16]) -> Code) {
+/// Eight frames of 64 symbols into a round, or, where `early`, ahead of it; then the round anew.
+fn frames(n: usize, q: u16, block: &[u16], early: u32, count: impl Fn(&mut Relay, usize, u32, &[u16]) -> Code) {
     for _ in 0..n / 8 {
         let mut relay = Relay::open(2, 8, black_box(q), 64);
         for sender in 1..9 {
-            assert_eq!(black_box(count(black_box(&mut relay), sender, 7, black_box(block))), Code(0, 0, 0));
+            assert_eq!(black_box(count(black_box(&mut relay), sender, 7 + early, black_box(block))), Code(0, 0, 0));
         }
     }
 }
 
 fn measure_frames(s: &mut Seeded, q: u16) -> bool {
     let block = drawn(s, q, 64);
-    let [x, y] = least(20_000, 15, [&mut |n| frames(n, q, &block, proved::count), &mut |n| frames(n, q, &block, count)]);
-    println!("{:44}{:12.2}{:11.2}", format!("frames of 64, q {q}, million a second"), 1e-6 / x, 1e-6 / y);
-    line(&format!("frames of 64, q {q}, ns a frame"), 1e9, x, y)
+    let mut met = true;
+    for (early, name) in [(0, "frames"), (1, "early frames")] {
+        let [x, y] = least(20_000, 15, [&mut |n| frames(n, q, &block, early, proved::count), &mut |n| frames(n, q, &block, early, count)]);
+        println!("{:44}{:12.2}{:11.2}", format!("{name} of 64, q {q}, million a second"), 1e-6 / x, 1e-6 / y);
+        met &= line(&format!("{name} of 64, q {q}, ns a frame"), 1e9, x, y);
+    }
+    met
+}
+
+/// Moving on from a round that is full, with a full one ahead.
+fn measure_moves(s: &mut Seeded, q: u16) -> bool {
+    let mut relay = Relay { reported: 255, ahead: 255, ..Relay::open(2, 8, q, 64) };
+    relay.sums.copy_from_slice(&drawn(s, q, 64));
+    relay.held.copy_from_slice(&drawn(s, q, 64));
+    let moves = |n: usize, advance: fn(&mut Relay) -> Code| {
+        for _ in 0..n {
+            assert_eq!(advance(black_box(&mut relay.clone())), Code(0, 0, 0));
+        }
+    };
+    let [x, y] = least(20_000, 15, [&mut |n| moves(n, proved::advance), &mut |n| moves(n, advance)]);
+    line(&format!("moving on, q {q}, ns"), 1e9, x, y)
 }
 
 /// Derivation less the vet's share of it, which the proved function makes first.
@@ -267,6 +324,7 @@ pub fn measure() -> bool {
     for q in [65521, 5] {
         met &= measure_blocks(&mut s, q);
         met &= measure_frames(&mut s, q);
+        met &= measure_moves(&mut s, q);
     }
     met &= measure_keys(&mut s);
     println!("bar (ratio at most {BAR}): {}", if met { "met" } else { "NOT met" });
@@ -299,26 +357,23 @@ pub fn compare(s: &mut Seeded, calls: usize) -> usize {
     differ + compare_frames(s, calls)
 }
 
+/// Frames for this round, the next and others, and at times moving on, into rounds that may be damaged.
 fn compare_frames(s: &mut Seeded, calls: usize) -> usize {
-    let (mut differ, mut numbers) = (0, [0usize; 15]);
+    let (mut differ, mut numbers, mut differ_moved, mut moved) = (0, [0usize; 15], 0, [0usize; 15]);
     let mut relay = Relay::open(2, 8, 65521, 64);
     for t in 0..calls {
-        if t % 16 == 0 {
-            relay = Relay::open([2, 1, 2, 2, 9][s.below(5)], [8, 8, 3, 9][s.below(4)], [65521, 5, 2, 4][s.below(4)], [64, 64, 1, 65, 0][s.below(5)]);
+        if t % 32 == 0 {
+            let (clusters, size) = ([2, 1, 2, 2, 9][s.below(5)], [8, 8, 3, 2, 1, 9][s.below(6)]);
+            relay = Relay::open(clusters, size, [65521, 65521, 5, 2, 4][s.below(5)], [64, 64, 63, 1, 65, 0][s.below(6)]);
+            relay.number = [7, u32::MAX - 2, u32::MAX - 1, u32::MAX][s.below(4)];
         }
-        let mut given = relay.clone();
-        match s.below(16) {
-            0 => given.reported |= 1 << s.below(16),
-            1 => given.sums[s.below(64)] = [1, relay.q][s.below(2)],
-            2 => given.cluster = [0, 1, 3][s.below(3)],
-            _ => {}
-        }
+        let given = spoiled(s, &relay);
         let wrong = (s.below(10) == 0) as usize;
         let mut block = drawn(s, relay.q.max(1), relay.length + wrong);
         if s.below(10) == 0 && !block.is_empty() {
             block[0] = relay.q;
         }
-        let (sender, said) = (s.below(10), 7 + (s.below(10) == 0) as u32);
+        let (sender, said) = (s.below(relay.size + 2), relay.number.wrapping_add([0, 0, 0, 0, 0, 1, 1, 2, u32::MAX][s.below(9)]));
         let (mut a, mut b) = (given.clone(), given.clone());
         let (one, two) = (proved::count(&mut a, sender, said, &block), count(&mut b, sender, said, &block));
         numbers[two.0 as usize] += 1;
@@ -326,7 +381,30 @@ fn compare_frames(s: &mut Seeded, calls: usize) -> usize {
         if two.0 == 0 {
             relay = b;
         }
+        let given = spoiled(s, &relay);
+        let (mut a, mut b) = (given.clone(), given);
+        let (one, two) = (proved::advance(&mut a), advance(&mut b));
+        moved[two.0 as usize] += 1;
+        differ_moved += (one != two || a != b) as usize;
+        if two.0 == 0 {
+            relay = b;
+        }
     }
     println!("frames: {calls} calls; {}; {differ} differ", crate::tally::counted(&numbers));
-    differ
+    println!("movings on: {calls} calls; {}; {differ_moved} differ", crate::tally::counted(&moved));
+    differ + differ_moved
+}
+
+/// A round as it is, or with one thing wrong.
+fn spoiled(s: &mut Seeded, relay: &Relay) -> Relay {
+    let mut given = relay.clone();
+    match s.below(24) {
+        0 => given.reported |= 1 << s.below(16),
+        1 => given.ahead |= 1 << s.below(16),
+        2 => given.sums[s.below(64)] = [1, relay.q][s.below(2)],
+        3 => given.held[s.below(64)] = [1, relay.q][s.below(2)],
+        4 => given.cluster = [0, 1, 3][s.below(3)],
+        _ => {}
+    }
+    given
 }

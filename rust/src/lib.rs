@@ -188,10 +188,31 @@ pub fn unmask(q: u16, upload: &[u16], key: &[u16]) -> Result<Vec<u16>, Refusal> 
     Ok(out)
 }
 
-/// A relay's round: of cluster `cluster`, with the round's number, a bit for each user who has reported (user v of the cluster
-/// has bit v − 1) and the sums, of which the first L = `length` count. A new round has 0 in `reported` and in all `sums`.
+/// A relay's round: of cluster `cluster`, with the round's number r, a bit for each user who has reported (user v of the cluster
+/// has bit v − 1) and the sums, of which the first L = `length` count. `ahead` and `held` are the same for the next round r + 1,
+/// whose frames may come early. A new round has 0 in `reported`, in `ahead` and in all places of `sums` and `held`.
 ///
-/// Any numbers can stand here; a frame into the round refuses those that are outside their bounds.
+/// Any numbers can stand here; every call refuses those that are outside their bounds.
+///
+/// ```
+/// use kortyghai::{advance, count_frame, give_sums, RelayRound};
+///
+/// // cluster 1 of two, two users each, q 5, blocks of one symbol, round 9
+/// let mut round = RelayRound {
+///     clusters: 2, size: 2, q: 5, length: 1, cluster: 1, number: 9, reported: 0, sums: [0; 64], ahead: 0, held: [0; 64],
+/// };
+/// count_frame(&mut round, 1, 9, &[4])?;
+/// // user 1 is fast, and user 2 still owes round 9
+/// count_frame(&mut round, 1, 10, &[3])?;
+/// assert_eq!(advance(&mut round).unwrap_err().number, 12);
+/// count_frame(&mut round, 2, 9, &[2])?;
+/// assert_eq!(give_sums(&round)?, [1]);
+///
+/// // on to round 10, with the frame that came early
+/// advance(&mut round)?;
+/// assert_eq!((round.number, round.reported, round.sums[0], round.ahead), (10, 1, 3, 0));
+/// # Ok::<(), kortyghai::Refusal>(())
+/// ```
 #[derive(Clone, PartialEq, Eq, Debug)]
 pub struct RelayRound {
     pub clusters: usize,
@@ -202,12 +223,15 @@ pub struct RelayRound {
     pub number: u32,
     pub reported: u16,
     pub sums: [u16; MAX_LENGTH],
+    pub ahead: u16,
+    pub held: [u16; MAX_LENGTH],
 }
 
 /// A frame into a relay's round: a sender from 1 to V, the round number `said` in it, and a block of exactly L symbols, which
-/// are added to the sums.
+/// are added to the sums; those of a frame for the next round to the held ones. After round 4,294,967,295 there is no next.
 ///
-/// Refuses, the first that holds, for the round: 1, 2, 9, 8, 3; then for the frame: 8, 14, 4, 3, 11.
+/// Refuses, the first that holds, for the round: 1, 2, 9, 8, 3; then for the frame: 8, 14 (neither this round nor the next), 4, 3,
+/// 11 (the sender has reported in the frame's round).
 pub fn count_frame(round: &mut RelayRound, sender: usize, said: u32, block: &[u16]) -> Result<(), Refusal> {
     Refusal::unpack(unsafe {
         raw::kortyghai_count_frame(
@@ -219,6 +243,8 @@ pub fn count_frame(round: &mut RelayRound, sender: usize, said: u32, block: &[u1
             round.number,
             &mut round.reported,
             &mut round.sums,
+            &mut round.ahead,
+            &mut round.held,
             sender,
             said,
             block.as_ptr(),
@@ -227,7 +253,28 @@ pub fn count_frame(round: &mut RelayRound, sender: usize, said: u32, block: &[u1
     })
 }
 
-/// A relay's sums, into a lent buffer of exactly L symbols, once every user of its cluster has reported.
+/// Moves a relay on to its next round, once every user of its cluster has reported: what is held for that round becomes its
+/// own, and nothing is held further. Ask for the sums first; they are gone afterwards.
+///
+/// Refuses, the first that holds, for the round: 1, 2, 9, 8, 3; then 14 (after round 4,294,967,295 there is no next), 12.
+pub fn advance(round: &mut RelayRound) -> Result<(), Refusal> {
+    Refusal::unpack(unsafe {
+        raw::kortyghai_advance(
+            round.clusters,
+            round.size,
+            round.q,
+            round.length,
+            round.cluster,
+            &mut round.number,
+            &mut round.reported,
+            &mut round.sums,
+            &mut round.ahead,
+            &mut round.held,
+        )
+    })
+}
+
+/// A relay's sums of its own round, into a lent buffer of exactly L symbols, once every user of its cluster has reported.
 ///
 /// Refuses, the first that holds, for the round: 1, 2, 9, 8, 3; then 12, 4 (`out`).
 pub fn give_sums_into(round: &RelayRound, out: &mut [u16]) -> Result<(), Refusal> {
@@ -241,6 +288,8 @@ pub fn give_sums_into(round: &RelayRound, out: &mut [u16]) -> Result<(), Refusal
             round.number,
             round.reported,
             &round.sums,
+            round.ahead,
+            &round.held,
             out.as_mut_ptr(),
             out.len(),
         )

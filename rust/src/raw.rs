@@ -54,10 +54,24 @@ extern "C" {
         number: u32,
         reported: *mut u16,
         sums: *mut [u16; 64],
+        ahead: *mut u16,
+        held: *mut [u16; 64],
         sender: usize,
         said: u32,
         block: *const u16,
         symbols: usize,
+    ) -> u64;
+    pub fn kortyghai_advance(
+        clusters: usize,
+        size: usize,
+        q: u16,
+        length: usize,
+        cluster: usize,
+        number: *mut u32,
+        reported: *mut u16,
+        sums: *mut [u16; 64],
+        ahead: *mut u16,
+        held: *mut [u16; 64],
     ) -> u64;
     pub fn kortyghai_give_sums(
         clusters: usize,
@@ -68,6 +82,8 @@ extern "C" {
         number: u32,
         reported: u16,
         sums: *const [u16; 64],
+        ahead: u16,
+        held: *const [u16; 64],
         out: *mut u16,
         lent: usize,
     ) -> u64;

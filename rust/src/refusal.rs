@@ -35,9 +35,9 @@ impl Refusal {
             9 => "the block length is not from 1 to 64",
             10 => "the table maker is given a limit that is too large",
             11 => "this sender is already on the roll",
-            12 => "sums are wanted while the roll is not full",
+            12 => "sums, or the next round, are wanted while the roll is not full",
             13 => "the key stream has too few symbols left",
-            14 => "the frame's round number is another one",
+            14 => "the frame's round number is another one, or there is no next round",
             _ => "an unknown number",
         }
     }

@@ -152,19 +152,31 @@ fn blocks_there_and_back() {
     assert_eq!(out, [7; 4]);
 }
 
+/// Cluster 1 of the small pool in round 9, blocks of two symbols: nobody has reported.
+fn opened() -> RelayRound {
+    RelayRound { clusters: 2, size: 2, q: 5, length: 2, cluster: 1, number: 9, reported: 0, sums: [0; 64], ahead: 0, held: [0; 64] }
+}
+
+/// The first places of a row of sums, and 0 past them.
+fn row(first: &[u16]) -> [u16; 64] {
+    let mut row = [0; 64];
+    row[..first.len()].copy_from_slice(first);
+    row
+}
+
 #[test]
 fn frames_into_a_round() {
-    let mut round = RelayRound { clusters: 2, size: 2, q: 5, length: 2, cluster: 1, number: 9, reported: 0, sums: [0; 64] };
+    let mut round = opened();
     assert_eq!(count_frame(&mut round, 2, 9, &[4, 1]), Ok(()));
     let before = round.clone();
     assert_eq!(count_frame(&mut round, 2, 9, &[1, 1]), refused(11, 0, 0));
     assert_eq!(count_frame(&mut round, 2, 9, &[1, 5]), refused(3, 0, 0));
     assert_eq!(count_frame(&mut round, 2, 9, &[5]), refused(4, 0, 0));
+    assert_eq!(count_frame(&mut round, 3, 8, &[5]), refused(8, 0, 0));
     // a late user is called late, whatever its block
     assert_eq!(count_frame(&mut round, 2, 8, &[1, 1]), refused(14, 0, 0));
     assert_eq!(count_frame(&mut round, 2, 8, &[1, 5]), refused(14, 0, 0));
     assert_eq!(count_frame(&mut round, 2, 8, &[5]), refused(14, 0, 0));
-    assert_eq!(count_frame(&mut round, 3, 8, &[5]), refused(8, 0, 0));
     assert_eq!(round, before);
     assert_eq!(give_sums(&round), refused(12, 0, 0));
     assert_eq!(count_frame(&mut round, 1, 9, &[3, 3]), Ok(()));
@@ -172,9 +184,76 @@ fn frames_into_a_round() {
 }
 
 #[test]
+fn frames_for_the_next_round() {
+    let mut round = opened();
+    assert_eq!(count_frame(&mut round, 2, 10, &[4, 1]), Ok(()));
+    assert_eq!(round, RelayRound { ahead: 2, held: row(&[4, 1]), ..opened() });
+    let before = round.clone();
+    assert_eq!(count_frame(&mut round, 2, 10, &[1, 1]), refused(11, 0, 0));
+    assert_eq!(count_frame(&mut round, 1, 10, &[1, 5]), refused(3, 0, 0));
+    assert_eq!(count_frame(&mut round, 1, 10, &[1]), refused(4, 0, 0));
+    assert_eq!(count_frame(&mut round, 3, 10, &[1, 1]), refused(8, 0, 0));
+    assert_eq!(count_frame(&mut round, 1, 11, &[1, 1]), refused(14, 0, 0));
+    assert_eq!(round, before);
+    // who is ahead may still report here
+    assert_eq!(count_frame(&mut round, 2, 9, &[1, 1]), Ok(()));
+    assert_eq!(count_frame(&mut round, 1, 10, &[2, 2]), Ok(()));
+    // and the next round's being full doesn't make this one so
+    assert_eq!((give_sums(&round), advance(&mut round)), (refused(12, 0, 0), refused(12, 0, 0)));
+    assert_eq!(round, RelayRound { reported: 2, sums: row(&[1, 1]), ahead: 3, held: row(&[1, 3]), ..opened() });
+}
+
+#[test]
+fn moving_on() {
+    let full = RelayRound { reported: 3, sums: row(&[2, 4]), ahead: 2, held: row(&[4, 1]), ..opened() };
+    let mut round = full.clone();
+    assert_eq!(advance(&mut round), Ok(()));
+    assert_eq!(round, RelayRound { number: 10, reported: 2, sums: row(&[4, 1]), ..opened() });
+    assert_eq!(count_frame(&mut round, 1, 9, &[1, 1]), refused(14, 0, 0));
+    assert_eq!(count_frame(&mut round, 2, 11, &[3, 3]), Ok(()));
+    assert_eq!(count_frame(&mut round, 1, 10, &[3, 3]), Ok(()));
+    assert_eq!(give_sums(&round), Ok(vec![2, 4]));
+    // a round that is handed in damaged stays as it is
+    let damages = [
+        (1, RelayRound { clusters: 9, ..full.clone() }),
+        (2, RelayRound { q: 9, ..full.clone() }),
+        (9, RelayRound { length: 65, ..full.clone() }),
+        (8, RelayRound { cluster: 3, ..full.clone() }),
+        (8, RelayRound { reported: 7, ..full.clone() }),
+        (8, RelayRound { ahead: 4, sums: [5; 64], ..full.clone() }),
+        (3, RelayRound { sums: row(&[2, 5]), ..full.clone() }),
+        (3, RelayRound { held: row(&[2, 5]), ..full.clone() }),
+        (3, RelayRound { held: row(&[2, 4, 1]), ..full.clone() }),
+    ];
+    for (number, damaged) in damages {
+        let mut round = damaged.clone();
+        assert_eq!(advance(&mut round), refused(number, 0, 0));
+        assert_eq!(count_frame(&mut round, 1, 10, &[0, 0]), refused(number, 0, 0));
+        assert_eq!(give_sums(&round), refused(number, 0, 0));
+        assert_eq!(round, damaged);
+    }
+}
+
+#[test]
+fn no_round_after_the_last() {
+    let mut round = RelayRound { number: u32::MAX - 1, reported: 3, ..opened() };
+    assert_eq!(count_frame(&mut round, 1, u32::MAX, &[1, 1]), Ok(()));
+    assert_eq!(count_frame(&mut round, 1, 0, &[1, 1]), refused(14, 0, 0));
+    assert_eq!(advance(&mut round), Ok(()));
+    let last = RelayRound { number: u32::MAX, reported: 1, sums: row(&[1, 1]), ..opened() };
+    assert_eq!(round, last);
+    assert_eq!(count_frame(&mut round, 2, 0, &[1, 1]), refused(14, 0, 0));
+    assert_eq!(count_frame(&mut round, 2, u32::MAX - 1, &[1, 1]), refused(14, 0, 0));
+    // 14 before 12, and where everyone has reported
+    assert_eq!(advance(&mut round), refused(14, 0, 0));
+    assert_eq!(round, last);
+    assert_eq!(count_frame(&mut round, 2, u32::MAX, &[1, 1]), Ok(()));
+    assert_eq!((advance(&mut round), give_sums(&round)), (refused(14, 0, 0), Ok(vec![2, 2])));
+}
+
+#[test]
 fn sums_of_a_round() {
-    let mut round = RelayRound { clusters: 2, size: 2, q: 5, length: 2, cluster: 1, number: 9, reported: 3, sums: [0; 64] };
-    round.sums[..2].copy_from_slice(&[2, 4]);
+    let round = RelayRound { reported: 3, sums: row(&[2, 4]), ..opened() };
     assert_eq!(give_sums(&round), Ok(vec![2, 4]));
     let mut out = [9; 3];
     assert_eq!(give_sums_into(&round, &mut out), refused(4, 0, 0));

@@ -1,4 +1,4 @@
-// Entries for callers in other languages: numbers, slices and arrays alone, and the same promises as the functions of vetting and rounds.
+// Entries for callers in other languages: numbers, slices and arrays alone, and the same promises as the functions that they call.
 ghost use mathlib.Core.Path.{_≡_};
 ghost use Prim.Native.Nat.{_<_};
 ghost use lib.ListN.{length};
@@ -9,7 +9,8 @@ ghost use Rattle.keys.specs.Keys.{keyCode, keysAfter};
 ghost use Rattle.masking.specs.Blocks.{blockCode, uploadAfter, unmaskAfter};
 ghost use Rattle.rounds.specs.Ledger.{frame};
 ghost use Rattle.exports.specs.Packed.{packed};
-ghost use Rattle.exports.specs.States.{frameCode, frameNext, sumsCode, sumsGiven};
+ghost use Rattle.rounds.specs.Relays.{relayCode, relayNext, relayGiveCode, relaySums, moveCode, moved};
+ghost use Rattle.exports.specs.States.{stateOf};
 ghost use Rattle.reports.specs.Program.{programCode};
 ghost use Rattle.exports.specs.Reading.{countsOf, entryCode, entryTable, entryCounts};
 use arithmetic::Symbol;
@@ -19,6 +20,7 @@ use refusals::Code;
 use refusals::Verdict;
 use refusals::code_of;
 use refusals::verdict_code;
+use rounds::Held;
 use rounds::RelayRound;
 use rounds::Round;
 
@@ -29,7 +31,7 @@ fn pack(code: Code) -> u64
     code.number as u64 + 65536 * code.first as u64 + 65536 * 65536 * code.second as u64
 }
 
-// The number and details of an answer, without its plan: the table maker's caller gave it, and the reader's is handed it only in five places.
+// The number and details of an answer, without its plan: the table maker's caller has given all of it but R, which follows, and the reader's is handed it in five places.
 fn planned_code(planned: Planned) -> Code
     ensures { λ r. ⌜ r ≡ plannedCode planned ⌝ }
 {
@@ -146,18 +148,30 @@ pub extern "C" fn kortyghai_count_frame(
     number: u32,
     reported: &mut u16,
     sums: &mut [Symbol; 64],
+    ahead: &mut u16,
+    held: &mut [Symbol; 64],
     sender: usize,
     said: u32,
     block: &[Symbol],
 ) -> u64
-    ensures answer { λ r. ⌜ r ≡ packed
-        (frameCode clusters size q length cluster number (now (reported .entry)) (now (sums .entry)) (frame sender said (now (block .entry)))) ⌝ }
-    ensures bits { λ _. ⌜ now (reported .exit)
-        ≡ frameNext clusters size q length cluster number (now (reported .entry)) (now (sums .entry)) (frame sender said (now (block .entry))) .reported ⌝ }
-    ensures totals { λ _. ⌜ now (sums .exit)
-        ≡ frameNext clusters size q length cluster number (now (reported .entry)) (now (sums .entry)) (frame sender said (now (block .entry))) .sums ⌝ }
+    ensures answer { λ r. ⌜ r ≡ packed (relayCode
+        (stateOf clusters size q length cluster number (now (reported .entry)) (now (sums .entry)) (now (ahead .entry)) (now (held .entry)))
+        (frame sender said (now (block .entry)))) ⌝ }
+    ensures bits { λ _. ⌜ now (reported .exit) ≡ relayNext
+        (stateOf clusters size q length cluster number (now (reported .entry)) (now (sums .entry)) (now (ahead .entry)) (now (held .entry)))
+        (frame sender said (now (block .entry))) .round .reported ⌝ }
+    ensures totals { λ _. ⌜ now (sums .exit) ≡ relayNext
+        (stateOf clusters size q length cluster number (now (reported .entry)) (now (sums .entry)) (now (ahead .entry)) (now (held .entry)))
+        (frame sender said (now (block .entry))) .round .sums ⌝ }
+    ensures early { λ _. ⌜ now (ahead .exit) ≡ relayNext
+        (stateOf clusters size q length cluster number (now (reported .entry)) (now (sums .entry)) (now (ahead .entry)) (now (held .entry)))
+        (frame sender said (now (block .entry))) .ahead .reported ⌝ }
+    ensures kept { λ _. ⌜ now (held .exit) ≡ relayNext
+        (stateOf clusters size q length cluster number (now (reported .entry)) (now (sums .entry)) (now (ahead .entry)) (now (held .entry)))
+        (frame sender said (now (block .entry))) .ahead .sums ⌝ }
 {
     let before = *sums;
+    let second = *held;
     let round = Round {
         clusters,
         size,
@@ -167,18 +181,93 @@ pub extern "C" fn kortyghai_count_frame(
         reported: *reported,
         sums: before,
     };
-    let relay = RelayRound { cluster, round };
+    let beyond = Held {
+        reported: *ahead,
+        sums: second,
+    };
+    let relay = RelayRound {
+        cluster,
+        round,
+        ahead: beyond,
+    };
     let step = relay.count(sender, said, block);
     let answer = step.answer;
     let next = step.round;
     let after = next.round;
     let left = after.sums;
+    let kept = next.ahead;
+    let more = kept.sums;
     *reported = after.reported;
     *sums = left;
+    *ahead = kept.reported;
+    *held = more;
     pack(verdict_code(answer))
 }
 
-// A relay's sums, once every user of its cluster has reported: put in the lent block, where nothing is refused.
+// A relay moves on to its next round: the number, who has reported and the sums are lent, and stand as the step leaves them.
+#[no_mangle]
+pub extern "C" fn kortyghai_advance(
+    clusters: usize,
+    size: usize,
+    q: Symbol,
+    length: usize,
+    cluster: usize,
+    number: &mut u32,
+    reported: &mut u16,
+    sums: &mut [Symbol; 64],
+    ahead: &mut u16,
+    held: &mut [Symbol; 64],
+) -> u64
+    ensures answer { λ r. ⌜ r ≡ packed (moveCode
+        (stateOf clusters size q length cluster (now (number .entry)) (now (reported .entry)) (now (sums .entry)) (now (ahead .entry)) (now (held .entry)))) ⌝ }
+    ensures round { λ _. ⌜ now (number .exit) ≡ moved
+        (stateOf clusters size q length cluster (now (number .entry)) (now (reported .entry)) (now (sums .entry)) (now (ahead .entry)) (now (held .entry))) .round .number ⌝ }
+    ensures bits { λ _. ⌜ now (reported .exit) ≡ moved
+        (stateOf clusters size q length cluster (now (number .entry)) (now (reported .entry)) (now (sums .entry)) (now (ahead .entry)) (now (held .entry))) .round .reported ⌝ }
+    ensures totals { λ _. ⌜ now (sums .exit) ≡ moved
+        (stateOf clusters size q length cluster (now (number .entry)) (now (reported .entry)) (now (sums .entry)) (now (ahead .entry)) (now (held .entry))) .round .sums ⌝ }
+    ensures early { λ _. ⌜ now (ahead .exit) ≡ moved
+        (stateOf clusters size q length cluster (now (number .entry)) (now (reported .entry)) (now (sums .entry)) (now (ahead .entry)) (now (held .entry))) .ahead .reported ⌝ }
+    ensures kept { λ _. ⌜ now (held .exit) ≡ moved
+        (stateOf clusters size q length cluster (now (number .entry)) (now (reported .entry)) (now (sums .entry)) (now (ahead .entry)) (now (held .entry))) .ahead .sums ⌝ }
+{
+    let before = *sums;
+    let second = *held;
+    let round = Round {
+        clusters,
+        size,
+        q,
+        length,
+        number: *number,
+        reported: *reported,
+        sums: before,
+    };
+    let beyond = Held {
+        reported: *ahead,
+        sums: second,
+    };
+    let relay = RelayRound {
+        cluster,
+        round,
+        ahead: beyond,
+    };
+    let step = relay.advance();
+    let answer = step.answer;
+    let next = step.round;
+    let after = next.round;
+    let begun = after.sums;
+    let kept = next.ahead;
+    let more = kept.sums;
+    *number = after.number;
+    *reported = after.reported;
+    *sums = begun;
+    *ahead = kept.reported;
+    *held = more;
+    pack(verdict_code(answer))
+}
+
+// A relay's sums, once every user of its cluster has reported: put in the lent block, where nothing is refused. The state is handed over whole; its round's
+// number, whatever it is, decides nothing here.
 #[no_mangle]
 pub extern "C" fn kortyghai_give_sums(
     clusters: usize,
@@ -189,12 +278,17 @@ pub extern "C" fn kortyghai_give_sums(
     number: u32,
     reported: u16,
     sums: &[Symbol; 64],
+    ahead: u16,
+    held: &[Symbol; 64],
     out: &mut [Symbol],
 ) -> u64
-    ensures code { λ r. ⌜ r ≡ packed (sumsCode clusters size q length cluster number reported (now (sums .entry)) (now (out .entry))) ⌝ }
-    ensures out { λ _. ⌜ now (out .exit) ≡ sumsGiven clusters size q length cluster number reported (now (sums .entry)) (now (out .entry)) ⌝ }
+    ensures code { λ r. ⌜ r ≡ packed (relayGiveCode
+        (stateOf clusters size q length cluster number reported (now (sums .entry)) ahead (now (held .entry))) (now (out .entry))) ⌝ }
+    ensures out { λ _. ⌜ now (out .exit) ≡ relaySums
+        (stateOf clusters size q length cluster number reported (now (sums .entry)) ahead (now (held .entry))) (now (out .entry)) ⌝ }
 {
-    let held = *sums;
+    let first = *sums;
+    let second = *held;
     let round = Round {
         clusters,
         size,
@@ -202,9 +296,17 @@ pub extern "C" fn kortyghai_give_sums(
         length,
         number,
         reported,
-        sums: held,
+        sums: first,
     };
-    let relay = RelayRound { cluster, round };
+    let beyond = Held {
+        reported: ahead,
+        sums: second,
+    };
+    let relay = RelayRound {
+        cluster,
+        round,
+        ahead: beyond,
+    };
     let step = relay.give(out);
     let answer = step.answer;
     pack(verdict_code(answer))

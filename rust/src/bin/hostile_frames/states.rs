@@ -12,6 +12,9 @@ pub struct Frame {
 
 pub type Case = (RelayRound, Frame);
 
+/// The last round's number.
+pub const LAST: u32 = u32::MAX;
+
 /// Small and large primes, and those around which two symbols stop fitting into 16 bits when added.
 pub const PRIMES: [u16; 11] = [2, 3, 5, 7, 11, 251, 257, 32_749, 32_771, 65_519, 65_521];
 
@@ -28,6 +31,13 @@ pub fn block(s: &mut Seeded, q: u16, length: usize) -> Vec<u16> {
     (0..length).map(|_| symbol(s, q)).collect()
 }
 
+/// A row of 64 sums, of which the first `length` are symbols.
+pub fn row(s: &mut Seeded, q: u16, length: usize) -> [u16; 64] {
+    let mut row = [0; 64];
+    row[..length].copy_from_slice(&block(s, q, length));
+    row
+}
+
 /// A new round.
 pub fn opened(s: &mut Seeded) -> RelayRound {
     let (clusters, size) = loop {
@@ -36,21 +46,40 @@ pub fn opened(s: &mut Seeded) -> RelayRound {
             break (u, v);
         }
     };
+    let (q, cluster) = (s.one_of(&PRIMES), 1 + s.below(clusters));
     let length = if s.below(4) == 0 { s.one_of(&[1, 63, 64]) } else { 1 + s.below(64) };
-    let number = if s.below(4) == 0 { s.one_of(&[0, 1, u32::MAX]) } else { s.next() as u32 };
-    RelayRound { clusters, size, q: s.one_of(&PRIMES), length, cluster: 1 + s.below(clusters), number, reported: 0, sums: [0; 64] }
+    let number = if s.below(4) == 0 { s.one_of(&[0, 1, LAST - 2, LAST - 1, LAST]) } else { s.next() as u32 };
+    RelayRound { clusters, size, q, length, cluster, number, reported: 0, sums: [0; 64], ahead: 0, held: [0; 64] }
 }
 
-/// A good round in which some may have reported, and a good frame from one who hasn't.
+/// Fills the round and the next with some who have reported and with their sums, which may be any: but not with `sender`, in the
+/// frame's own round.
+fn filled(s: &mut Seeded, round: &mut RelayRound, frame: &Frame) {
+    let users = (1 << round.size) - 1;
+    let others = users & !(1 << (frame.sender - 1));
+    let own = frame.said == round.number;
+    round.reported = s.next() as u16 & if own { others } else { users };
+    round.ahead = s.next() as u16 & if own { users } else { others } & s.one_of(&[0, users]);
+    if round.reported > 0 {
+        round.sums = row(s, round.q, round.length);
+    }
+    if round.ahead > 0 {
+        round.held = row(s, round.q, round.length);
+    }
+}
+
+/// A good round in which some may have reported, here and ahead, and a good frame from one who hasn't: every third for the next
+/// round, where there is one.
 pub fn good(s: &mut Seeded) -> Case {
     let mut round = opened(s);
     let sender = 1 + s.below(round.size);
-    round.reported = s.next() as u16 & ((1 << round.size) - 1) & !(1 << (sender - 1));
-    if round.reported > 0 {
-        let sums = block(s, round.q, round.length);
-        round.sums[..round.length].copy_from_slice(&sums);
+    let said = if s.below(3) == 0 { round.number.saturating_add(1) } else { round.number };
+    let frame = Frame { sender, said, block: block(s, round.q, round.length) };
+    filled(s, &mut round, &frame);
+    if s.below(4) == 0 {
+        // all others have, so that a frame for this round makes it full
+        round.reported |= ((1 << round.size) - 1) & !(1 << (sender - 1));
     }
-    let frame = Frame { sender, said: round.number, block: block(s, round.q, round.length) };
     (round, frame)
 }
 
@@ -103,27 +132,52 @@ fn cluster(s: &mut Seeded, (round, _): &mut Case) {
     round.cluster = s.one_of(&[0, 0, round.clusters + 1, round.clusters + 1, 9, 16, far, far]);
 }
 
+/// Bits of a roll that are no sender's.
+fn no_senders(s: &mut Seeded, size: usize) -> u16 {
+    let bits = s.next() as u16 | 1 << (size + s.below(16 - size));
+    let one = 1 << s.one_of(&[size, 15]);
+    s.one_of(&[one, bits & !((1 << size) - 1)])
+}
+
 fn no_senders_bit(s: &mut Seeded, (round, _): &mut Case) {
-    let bits = s.next() as u16 | 1 << (round.size + s.below(16 - round.size));
-    let one = 1 << s.one_of(&[round.size, 15]);
-    round.reported |= s.one_of(&[one, bits & !((1 << round.size) - 1)]);
+    round.reported |= no_senders(s, round.size);
+}
+
+fn no_senders_bit_ahead(s: &mut Seeded, (round, _): &mut Case) {
+    round.ahead |= no_senders(s, round.size);
+}
+
+fn too_large_in(s: &mut Seeded, q: u16, symbols: &mut [u16]) {
+    for _ in 0..s.one_of(&[1, 1, 3]) {
+        let last = symbols.len() - 1;
+        let any = s.below(symbols.len());
+        symbols[s.one_of(&[0, any, any, last])] = too_large(s, q);
+    }
 }
 
 fn sum_too_large(s: &mut Seeded, (round, _): &mut Case) {
-    for _ in 0..s.one_of(&[1, 1, 3]) {
-        let last = round.length - 1;
-        let any = s.below(round.length);
-        round.sums[s.one_of(&[0, any, any, last])] = too_large(s, round.q);
-    }
+    too_large_in(s, round.q, &mut round.sums[..round.length]);
+}
+
+fn held_too_large(s: &mut Seeded, (round, _): &mut Case) {
+    too_large_in(s, round.q, &mut round.held[..round.length]);
 }
 
 /// Does nothing where no sum stands past the others.
-fn sum_past(s: &mut Seeded, (round, _): &mut Case) {
-    if round.length < 64 {
-        let any = round.length + s.below(64 - round.length);
-        let large = too_large(s, round.q);
-        round.sums[s.one_of(&[round.length, any, any, 63])] = s.one_of(&[1, round.q - 1, large]);
+fn past_in(s: &mut Seeded, q: u16, length: usize, row: &mut [u16; 64]) {
+    if length < 64 {
+        let any = length + s.below(64 - length);
+        let large = too_large(s, q);
+        row[s.one_of(&[length, any, any, 63])] = s.one_of(&[1, q - 1, large]);
     }
+}
+
+fn sum_past(s: &mut Seeded, (round, _): &mut Case) {
+    past_in(s, round.q, round.length, &mut round.sums);
+}
+
+fn held_past(s: &mut Seeded, (round, _): &mut Case) {
+    past_in(s, round.q, round.length, &mut round.held);
 }
 
 fn no_sender(s: &mut Seeded, (round, frame): &mut Case) {
@@ -145,37 +199,51 @@ fn block_length(s: &mut Seeded, (round, frame): &mut Case) {
 }
 
 fn symbol_too_large(s: &mut Seeded, (round, frame): &mut Case) {
-    for _ in 0..s.one_of(&[1, 1, 3]) {
-        let last = frame.block.len() - 1;
-        let any = s.below(frame.block.len());
-        frame.block[s.one_of(&[0, any, any, last])] = too_large(s, round.q);
+    too_large_in(s, round.q, &mut frame.block);
+}
+
+/// Neither this round's number nor the next one's. After the last there is no next: 0 isn't it.
+pub fn other_round(s: &mut Seeded, n: u32) -> u32 {
+    loop {
+        let other = s.next() as u32 | 1;
+        let near = s.one_of(&[n.wrapping_sub(1), n.wrapping_add(2)]);
+        let said = s.one_of(&[near, near, n.wrapping_add(1), n ^ 1 << 16, n ^ 1 << 31, n ^ other]);
+        if said != n && said.checked_sub(1) != Some(n) {
+            return said;
+        }
     }
 }
 
-fn late(s: &mut Seeded, (round, frame): &mut Case) {
-    let n = round.number;
-    let other = s.next() as u32 | 1;
-    frame.said = s.one_of(&[n.wrapping_sub(1), n.wrapping_add(1), n ^ 1 << 16, n ^ 1 << 31, n ^ other]);
+fn another_round(s: &mut Seeded, (round, frame): &mut Case) {
+    frame.said = other_round(s, round.number);
 }
 
+/// In the frame's own round. Other damages come later: the frame's number is still this one's or the next one's.
 fn repeated(_: &mut Seeded, (round, frame): &mut Case) {
-    round.reported |= 1 << (frame.sender - 1);
+    let roll = if frame.said == round.number { &mut round.reported } else { &mut round.ahead };
+    *roll |= 1 << (frame.sender - 1);
 }
 
 /// A kind of damage: what it does, and the number by which that is refused.
 pub type Damage = (&'static str, u16, fn(&mut Seeded, &mut Case));
 
-/// All kinds, in the order of their refusals. The first seven damage the round handed in, the others the frame.
-pub const DAMAGES: [Damage; 12] = [
+/// How many of the kinds damage the round handed in.
+pub const OF_ROUND: usize = 10;
+
+/// All kinds, in the order of their refusals: those of the round handed in, then those of the frame.
+pub const DAMAGES: [Damage; 15] = [
     ("U, V or U x V outside", 1, counts),
     ("q no prime", 2, no_prime),
     ("L outside", 9, length),
     ("cluster outside", 8, cluster),
     ("a bit that is no sender's", 8, no_senders_bit),
+    ("the same, ahead", 8, no_senders_bit_ahead),
     ("a sum not below q", 3, sum_too_large),
+    ("a held one not below q", 3, held_too_large),
     ("a sum past L", 3, sum_past),
+    ("a held one past L", 3, held_past),
     ("sender outside", 8, no_sender),
-    ("another round's number", 14, late),
+    ("another round's number", 14, another_round),
     ("block of another length", 4, block_length),
     ("a symbol not below q", 3, symbol_too_large),
     ("sender has reported", 11, repeated),
@@ -192,19 +260,26 @@ pub fn damaged(s: &mut Seeded, set: usize) -> (Case, u16) {
     (case, chosen().next().map_or(0, |first| first.1))
 }
 
-/// Small numbers by chance in all places, near the bounds or inside them.
+/// Up to three small numbers in the first places of a row.
+fn small_row(s: &mut Seeded) -> [u16; 64] {
+    let mut row = [0; 64];
+    for _ in 0..s.below(4) {
+        row[s.below(4)] = s.below(7) as u16;
+    }
+    row
+}
+
+/// Small numbers by chance in all places, near the bounds or inside them. The rounds' numbers are at either end.
 pub fn by_chance(s: &mut Seeded) -> Case {
     let q = s.one_of(&[0, 1, 2, 3, 3, 4, 5, 5, 7, 7, 9, 65_521]);
     let length = s.one_of(&[0, 1, 1, 2, 2, 3, 3, 63, 64, 65]);
-    let mut sums = [0; 64];
-    for _ in 0..s.below(4) {
-        sums[s.below(4)] = s.below(7) as u16;
-    }
-    let reported = s.next() as u16 & s.one_of(&[0, 1, 3, 3, 7, 15, 255]);
-    let counts = (s.below(7), s.below(7));
-    let number = s.below(2) as u32;
-    let round = RelayRound { clusters: counts.0, size: counts.1, q, length, cluster: s.below(4), number, reported, sums };
+    let (sums, held) = (small_row(s), if s.below(2) == 0 { [0; 64] } else { small_row(s) });
+    let (reported, ahead) = (s.next() as u16 & s.one_of(&[0, 1, 3, 3, 7, 15, 255]), s.next() as u16 & s.one_of(&[0, 0, 1, 3, 15]));
+    let (clusters, size, cluster) = (s.below(7), s.below(7), s.below(4));
+    let numbers = s.one_of(&[[0, 1, 2], [LAST - 2, LAST - 1, LAST], [LAST - 1, LAST, 0]]);
+    let number = s.one_of(&numbers);
+    let round = RelayRound { clusters, size, q, length, cluster, number, reported, sums, ahead, held };
     let given = if s.below(4) > 0 { length } else { s.below(5) };
     let block = (0..given).map(|_| if s.below(8) > 0 { symbol(s, q) } else { s.below(8) as u16 }).collect();
-    (round, Frame { sender: s.below(6), said: s.below(2) as u32, block })
+    (round, Frame { sender: s.below(6), said: s.one_of(&numbers), block })
 }

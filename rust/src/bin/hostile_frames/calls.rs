@@ -1,0 +1,156 @@
+//! The archive's three calls on a round, and the same by the safe crate. Every lent place stands between marks.
+
+use crate::states::Frame;
+use kortyghai::{raw, RelayRound, Refusal};
+
+/// What stands around the lent places.
+const MARK: [u16; 8] = [0xABCD; 8];
+
+/// What a call answered and left.
+#[derive(PartialEq)]
+pub struct Left {
+    /// The packed answer.
+    pub answer: u64,
+    pub round: RelayRound,
+    /// The buffer that was lent for sums, with a mark before and behind it.
+    pub out: Vec<u16>,
+    /// Whether only the lent places were written.
+    pub clean: bool,
+}
+
+/// A buffer for so many sums, with a mark before and behind it.
+pub fn marked(room: usize) -> Vec<u16> {
+    vec![MARK[0]; room + 2]
+}
+
+/// The lent places of a round, and others around them that are not lent.
+#[repr(C)]
+struct Lent {
+    front: [u16; 8],
+    number: u32,
+    marks: [[u16; 8]; 2],
+    reported: u16,
+    more: [u16; 8],
+    sums: [u16; 64],
+    between: [u16; 8],
+    ahead: u16,
+    others: [u16; 8],
+    held: [u16; 64],
+    behind: [u16; 8],
+}
+
+impl Lent {
+    fn of(round: &RelayRound) -> Lent {
+        Lent {
+            front: MARK,
+            number: round.number,
+            marks: [MARK; 2],
+            reported: round.reported,
+            more: MARK,
+            sums: round.sums,
+            between: MARK,
+            ahead: round.ahead,
+            others: MARK,
+            held: round.held,
+            behind: MARK,
+        }
+    }
+
+    fn left(&self, round: &RelayRound, answer: u64) -> Left {
+        let clean = [self.front, self.marks[0], self.marks[1], self.more, self.between, self.others, self.behind] == [MARK; 7];
+        let (number, reported, sums, ahead, held) = (self.number, self.reported, self.sums, self.ahead, self.held);
+        Left { answer, round: RelayRound { number, reported, sums, ahead, held, ..round.clone() }, out: Vec::new(), clean }
+    }
+}
+
+/// A frame.
+pub fn count(round: &RelayRound, frame: &Frame) -> Left {
+    let mut lent = Lent::of(round);
+    let given = frame.block.clone();
+    let answer = unsafe {
+        raw::kortyghai_count_frame(
+            round.clusters,
+            round.size,
+            round.q,
+            round.length,
+            round.cluster,
+            round.number,
+            &mut lent.reported,
+            &mut lent.sums,
+            &mut lent.ahead,
+            &mut lent.held,
+            frame.sender,
+            frame.said,
+            given.as_ptr(),
+            given.len(),
+        )
+    };
+    let left = lent.left(round, answer);
+    Left { clean: left.clean && given == frame.block, ..left }
+}
+
+/// Moving on.
+pub fn advance(round: &RelayRound) -> Left {
+    let mut lent = Lent::of(round);
+    let answer = unsafe {
+        raw::kortyghai_advance(
+            round.clusters,
+            round.size,
+            round.q,
+            round.length,
+            round.cluster,
+            &mut lent.number,
+            &mut lent.reported,
+            &mut lent.sums,
+            &mut lent.ahead,
+            &mut lent.held,
+        )
+    };
+    lent.left(round, answer)
+}
+
+/// The sums asked for, into a buffer of `room` symbols.
+pub fn give(round: &RelayRound, room: usize) -> Left {
+    let lent = Lent::of(round);
+    let mut out = marked(room);
+    let answer = unsafe {
+        raw::kortyghai_give_sums(
+            round.clusters,
+            round.size,
+            round.q,
+            round.length,
+            round.cluster,
+            lent.number,
+            lent.reported,
+            &lent.sums,
+            lent.ahead,
+            &lent.held,
+            out[1..].as_mut_ptr(),
+            room,
+        )
+    };
+    Left { out, ..lent.left(round, answer) }
+}
+
+/// The safe crate's answer as a number.
+fn number(answer: Result<(), Refusal>) -> u64 {
+    answer.map_or_else(|refusal| refusal.number as u64, |()| 0)
+}
+
+pub fn safe_count(round: &RelayRound, frame: &Frame) -> Left {
+    let mut round = round.clone();
+    let answer = number(kortyghai::count_frame(&mut round, frame.sender, frame.said, &frame.block));
+    Left { answer, round, out: Vec::new(), clean: true }
+}
+
+pub fn safe_advance(round: &RelayRound) -> Left {
+    let mut round = round.clone();
+    let answer = number(kortyghai::advance(&mut round));
+    Left { answer, round, out: Vec::new(), clean: true }
+}
+
+pub fn safe_give(round: &RelayRound, room: usize) -> Left {
+    let mut out = marked(room);
+    let answer = number(kortyghai::give_sums_into(round, &mut out[1..=room]));
+    Left { answer, round: round.clone(), out, clean: true }
+}
