@@ -54,16 +54,21 @@ fn sums_number(sums: &[Symbol], q: usize, length: usize, otherwise: usize) -> us
     number
 }
 
-// A state that is handed in: 1, 2, 9, 8, 3. Where the counts are within their bounds there are at most 8 senders.
+// A state that is handed in: 1, 2, 9, 8, 3, a relay's of both rolls and both rows of sums. Where the counts are within their bounds there are at most 8 senders.
 pub fn state_number(server: bool, s: RelayRound, otherwise: usize) -> usize {
     let round = s.round;
     let sums = round.sums;
-    let large = sums_number(&sums, wide(round.q), round.length, otherwise);
+    let ahead = s.ahead;
+    let others = ahead.sums;
+    let first = sums_number(&sums, wide(round.q), round.length, otherwise);
+    let both = sums_number(&others, wide(round.q), round.length, first);
+    let large = over(server, first, both);
     let most = power(65536, 2, senders(server, round) % 16);
-    opening_number(server, s, over(wide(round.reported) >= most, 8, large))
+    let second = over(over(server, 0, wide(ahead.reported)) >= most, 8, large);
+    opening_number(server, s, over(wide(round.reported) >= most, 8, second))
 }
 
-// A frame: 8, 14, 4, 3, 11.
+// A frame, held against the round that it is for: 8, 14, 4, 3, 11.
 pub fn frame_number(
     senders: usize,
     round: Round,
@@ -88,4 +93,10 @@ pub fn give_number(senders: usize, round: Round, room: usize) -> usize {
         12,
         over(room != round.length, 4, 0),
     )
+}
+
+// Moving on: 14, 12.
+pub fn move_number(round: Round) -> usize {
+    let full = give_number(round.size, round, round.length);
+    over(round.number == 4294967295, 14, full)
 }

@@ -3,6 +3,7 @@ use crate::numbers::compared;
 use crate::numbers::holds;
 use crate::numbers::number_of;
 use crate::shapes::empty;
+use crate::shapes::nothing;
 use crate::steps::open;
 use arithmetic::Symbol;
 use rounds::RelayRound;
@@ -14,6 +15,7 @@ fn opens(clusters: usize, q: usize, length: usize, number: usize) -> usize {
     let s = RelayRound {
         cluster: 1,
         round: empty(clusters, 2, q, length, 1),
+        ahead: nothing(),
     };
     let step = open(false, s);
     let answer = step.answer;

@@ -4,10 +4,10 @@ use Rattle.rounds_test.proofs.main.Statement.{statement}
 use Rattle.rounds_test.proofs.main.Tie as tie
 
 abbrev Inv-loop : tie.InvT-loop
-Inv-loop kind₀ t2 kind = kind ≤ 8
+Inv-loop kind₀ t2 kind = kind ≤ 11
 
 abbrev μ-loop : tie.MeasureT-loop
-μ-loop kind₀ t2 kind = 8 - kind
+μ-loop kind₀ t2 kind = 11 - kind
 
 pub main-spec : {M : Type 1} → statement M
 main-spec =
