@@ -2,10 +2,10 @@
 use mathlib.Core.Path.{_≡_, refl}
 use mathlib.Core.List.{List, [], _∷_}
 use Rattle.refusals.specs.Codes.{code, accepted}
-use Rattle.arithmetic.specs.Search.{allTo}
-use Rattle.arithmetic.specs.Primes.{isPrime, allBelow}
-use Rattle.arithmetic.specs.Bits.{hasBit}
-use Rattle.secrecy.specs.Lists.{tab}
+use Rattle.lists.specs.Search.{allTo}
+use Rattle.residues.specs.Primes.{isPrime, allBelow}
+use Rattle.lists.specs.Bits.{hasBit}
+use Rattle.lists.specs.Lists.{tab}
 use Rattle.rounds.specs.declared.RelayRound.{RelayRound}
 use Rattle.rounds.specs.Ledger.{frame, named, bitsOf, countedAt}
 use Rattle.rounds.specs.Rounds.{opened}

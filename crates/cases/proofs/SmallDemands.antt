@@ -7,14 +7,15 @@ use mathlib.Core.Bool.{true}
 use mathlib.Core.List.{List, [], _∷_}
 use lib.ListN.{length}
 use Rattle.refusals.specs.Codes.{code, accepted, firstOf}
-use Rattle.arithmetic.specs.Search.{allTo}
-use Rattle.arithmetic.specs.Primes.{isPrime, allBelow}
-use Rattle.secrecy.specs.Lists.{tab}
-use Rattle.secrecy.specs.Counts.{sumTo}
-use Rattle.arithmetic.specs.Bits.{hasBit}
+use Rattle.lists.specs.Search.{allTo}
+use Rattle.residues.specs.Primes.{isPrime, allBelow}
+use Rattle.lists.specs.Lists.{tab}
+use Rattle.lists.specs.Sums.{sumTo}
+use Rattle.lists.specs.Bits.{hasBit}
 use Rattle.secrecy.specs.Model.{columnSum, view, reading, key, upload, total}
 use Rattle.secrecy.specs.Leaks.{number, Symbols, Agrees, PairLeak}
-use Rattle.plans.specs.Plans.{plan, poolOf}
+use Rattle.plans.specs.Plans.{plan}
+use Rattle.vetting.specs.Pools.{poolOf}
 use Rattle.vetting.specs.Walk.{InWalk}
 use Rattle.vetting.specs.Verdict.{otherChecks}
 use Rattle.rounds.specs.Ledger.{Frame, frame, named, bitsOf, countedAt, framesOf}

@@ -2,20 +2,16 @@
 use Prim.Native.Nat.{ℕ}
 use mathlib.Core.List.{List}
 use Rattle.plans.specs.declared.Plan.{Plan}
-use Rattle.plans.specs.Plans.{poolOf}
 use Rattle.vetting.proofs.ExactSecrecy.{accepted-equal-numbers, refused-iff-leaks, refused-names-first}
 use Rattle.masking.proofs.BlockLaws.{unmask-gives-back}
-use Rattle.rounds.specs.Ledger.{Frame}
-use Rattle.rounds.specs.Relays.{Event}
 use Rattle.rounds.proofs.LedgerLaws.{ledger-run, ledger-give}
 use Rattle.rounds.proofs.Runs.{server-run, server-answers}
-use Rattle.rounds.proofs.Totals as Totals
-use Rattle.rounds.proofs.Totals.{relay-sums, server-sums, readings-to-total}
 use Rattle.records.proofs.RecordChecks.{writable}
 use Rattle.records.proofs.RecordLaws.{write-read, written-accepted, one-record}
 use Rattle.streams.proofs.StreamLaws.{draws-give, draws-counted, draws-placed, draws-disjoint}
-use Rattle.demands.specs.Demands.{KeysAre, UploadsAre, AllHeard, RelaySumsAre, TotalIs, TotalIsSum, AcceptedIsZeroSum, Unmasks, EqualNumbers, RefusedIffLeaks, NamesFirst}
+use Rattle.demands.specs.Demands.{KeysAre, UploadsAre, RelaySumsAre, TotalIs, TotalIsSum, AcceptedIsZeroSum, Unmasks, EqualNumbers, RefusedIffLeaks, NamesFirst}
 use Rattle.demands.specs.Demands.{CallsAreRuns, AnswersAsLedger, WrittenIsRead, OneRecord, DrawnOnce}
+use Rattle.demands.proofs.Totals.{relay-sums, server-sums, readings-to-total}
 use Rattle.demands.proofs.Equations.{keys-are, sent-is, accepted-zero-sum}
 
 -- ---- demand 2
@@ -28,17 +24,13 @@ module _ (P : Plan) (K : List ℕ) (L : ℕ) (W N : List ℕ) where
   uploads h = sent-is P K h L W N
 
   pub relays : (round : ℕ) → RelaySumsAre P K L W N round
-  relays round u first events opens h = relay-sums (poolOf P K) L W N round u first events opens (record { reached = h .reached; uploads = h .uploads })
-
-  all-heard : (round : ℕ) (first : ℕ → ℕ) (events : ℕ → List Event) (frames : List Frame) → AllHeard P K L W N round first events frames
-      → Totals.AllHeard (poolOf P K) L W N round first events frames
-  all-heard round first events frames h = record { relays = λ u l. record { reached = h .relays u l .reached; uploads = h .relays u l .uploads }; sums = h .sums }
+  relays = relay-sums P K L W N
 
   pub total : (round : ℕ) → TotalIs P K L W N round
-  total round opens first events frames h = server-sums (poolOf P K) L W N round opens first events frames (all-heard round first events frames h)
+  total = server-sums P K L W N
 
   pub total-is-sum : (round : ℕ) → TotalIsSum P K L W N round
-  total-is-sum round zs opens first events frames h = readings-to-total (poolOf P K) L W N round zs opens first events frames (all-heard round first events frames h)
+  total-is-sum = readings-to-total P K L W N
 
 pub zero-sum : AcceptedIsZeroSum
 zero-sum = accepted-zero-sum

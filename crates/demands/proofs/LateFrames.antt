@@ -8,12 +8,11 @@ use lib.Dec.{eqb}
 use lib.ListN.{length}
 use Rattle.refusals.specs.declared.Code.{Code}
 use Rattle.refusals.specs.Codes.{code, accepted, isAccepted, firstOf}
-use Rattle.refusals.proofs.Orders.{first-decides, rest-decides}
-use Rattle.arithmetic.specs.Primes.{allBelow}
+use Rattle.refusals.proofs.Orders.{first-decides, rest-decides, number-accepts}
+use Rattle.residues.specs.Primes.{allBelow}
 use Rattle.rounds.specs.declared.Round.{Round}
 use Rattle.rounds.specs.Ledger.{Frame}
 use Rattle.rounds.specs.Rounds.{oneOf, hasReported, stateChecks, ownChecks, stepCode}
-use Rattle.rounds.proofs.LedgerLaws.{number-zero}
 use Rattle.demands.specs.LateFrames.{formerChecks, formerCode, LateAnswers}
 
 -- no such sender, another round, a wrong length, a symbol too large, already reported
@@ -45,7 +44,7 @@ late-answers senders known R f = go (isAccepted (firstOf (stateChecks senders kn
         → stepCode senders known R f
         ≡ cond (isAccepted (firstOf (stateChecks senders known R)) && late (formerCode senders known R f)) (code 14) (formerCode senders known R f)
     go true n =
-        let e : accepted ≡ firstOf (stateChecks senders known R) = number-zero (stateChecks senders known R) tt n in
+        let e : accepted ≡ firstOf (stateChecks senders known R) = number-accepts (stateChecks senders known R) tt n in
         sym (rest-decides (stateChecks senders known R) (ownChecks senders R [] f) tt e)
         ∙ orders (not (oneOf senders (f .sender))) (not (eqb (f .number) (R .number))) (not (eqb (length (f .block)) (R .length)))
         (not (allBelow (R .q) (f .block))) (hasReported R [] (f .sender))

@@ -8,8 +8,8 @@ use lib.Dec.{ltb, eqb}
 use lib.ListN.{length, take}
 use Rattle.refusals.specs.declared.Code.{Code}
 use Rattle.refusals.specs.Codes.{code, firstOf, ifAccepted}
-use Rattle.arithmetic.specs.Primes.{isPrime}
-use Rattle.arithmetic.proofs.Searches.{T→true, true→T, T-and}
+use Rattle.residues.specs.Primes.{isPrime}
+use Rattle.lists.proofs.Searches.{T→true, true→T, T-and}
 use Rattle.plans.specs.Plans.{countsFit, lengthFits}
 use Rattle.rounds.specs.declared.Round.{Round}
 use Rattle.rounds.specs.declared.RelayRound.{RelayRound}

@@ -9,13 +9,13 @@ use mathlib.Core.Bool.{Bool, true}
 use mathlib.Core.List.{List, [], _++_}
 use lib.ListN.{length, take, drop}
 use Rattle.refusals.specs.Codes.{accepted, firstOf, ifAccepted}
-use Rattle.matrices.specs.Linear.{at}
-use Rattle.secrecy.specs.Lists.{tab}
-use Rattle.secrecy.specs.Counts.{sumTo}
+use Rattle.lists.specs.Lists.{at, tab}
+use Rattle.lists.specs.Sums.{sumTo}
 use Rattle.secrecy.specs.Model.{Pool, reading, key, upload, relaySum, total, ZeroSum, view}
 use Rattle.secrecy.specs.Leaks.{number, Symbols, Agrees, PairLeak}
 use Rattle.plans.specs.declared.Plan.{Plan}
-use Rattle.plans.specs.Plans.{poolOf, usersOf}
+use Rattle.plans.specs.Plans.{usersOf}
+use Rattle.vetting.specs.Pools.{poolOf}
 use Rattle.vetting.specs.declared.Pair.{Pair}
 use Rattle.vetting.specs.Walk.{pairs, InWalk, First}
 use Rattle.vetting.specs.Verdict.{otherChecks, verdict}
@@ -34,7 +34,7 @@ use Rattle.streams.specs.Streams.{drawn, positionAfterAll, symbolsDrawn, places
 -- ---- demand 2: a plan P with key table K, blocks of L symbols, readings W, a source key (document 01: key block) N
 
 module _ (P : Plan) (K : List ℕ) (L : ℕ) (W N : List ℕ) where
-  abbrev pool : Pool
+  abbrev pub pool : Pool
   pool = poolOf P K
 
   -- user i's L symbols of the individual keys
@@ -53,22 +53,22 @@ module _ (P : Plan) (K : List ℕ) (L : ℕ) (W N : List ℕ) where
 
   -- rounds, opened with the plan's counts, where the opening is not refused
   module _ (round : ℕ) where
-    abbrev opening : Round
+    abbrev pub opening : Round
     opening = opened (P .clusters) (P .size) (P .q) L round
 
-    abbrev opens : Bool → Type 0
+    abbrev pub opens : Bool → Type 0
     opens known = accepted ≡ firstOf (openChecks (P .clusters) (P .size) (P .q) L known)
 
     -- the block of user v, from 1, of cluster u, from 0
-    abbrev sent : ℕ → ℕ → List ℕ
+    abbrev pub sent : ℕ → ℕ → List ℕ
     sent u v = tab L (upload pool L W N (u * P .size + (v - 1)))
 
     -- relay u, from 0, opened in round `first`
-    abbrev relayOpening : ℕ → ℕ → RelayRound
+    abbrev pub relayOpening : ℕ → ℕ → RelayRound
     relayOpening u first = relayRound (suc u) (opened (P .clusters) (P .size) (P .q) L first) nothing
 
     -- what it counted of this round in the course of some events
-    abbrev countedOf : ℕ → ℕ → List Event → List Frame
+    abbrev pub countedOf : ℕ → ℕ → List Event → List Frame
     countedOf u first events = framesOf round (logOf (relayOpening u first) events .counted)
 
     -- Relay u is opened in some round, and any events come, in any order, until it is in this one. Of the frames of this round that it counted, each carries its
@@ -86,7 +86,7 @@ module _ (P : Plan) (K : List ℕ) (L : ℕ) (W N : List ℕ) where
         × (relaySums (relayRun (relayOpening u first) events) out ≡ tab L (relaySum pool L W N u))
 
     -- what relay s, from 1, holds after its events
-    abbrev relayed : (ℕ → ℕ) → (ℕ → List Event) → ℕ → List ℕ
+    abbrev pub relayed : (ℕ → ℕ) → (ℕ → List Event) → ℕ → List ℕ
     relayed first events s = take L (relayRun (relayOpening (s - 1) (first (s - 1))) (events (s - 1)) .round .sums)
 
     -- each relay reaches this round so, and the server, opened in it, gets any frames, in any order; those that it counted carry what the relays hold, and every
@@ -96,7 +96,7 @@ module _ (P : Plan) (K : List ℕ) (L : ℕ) (W N : List ℕ) where
       pub sums : Heard (P .clusters) (relayed first events) (ledgerOf (P .clusters) true opening [] frames)
 
     -- after these frames the server gives f 0, f 1, .. out, into any buffer of L symbols
-    abbrev gives : List Frame → (ℕ → ℕ) → Type 0
+    abbrev pub gives : List Frame → (ℕ → ℕ) → Type 0
     gives frames f =
         (out : List ℕ) → length out ≡ L
         → (giveCode (P .clusters) true (runOf (P .clusters) true opening frames) out ≡ accepted)

@@ -8,7 +8,7 @@ use lib.Dec.{eqb}
 use lib.ListN.{length}
 use Rattle.refusals.specs.declared.Code.{Code}
 use Rattle.refusals.specs.Codes.{code, isAccepted, firstOf}
-use Rattle.arithmetic.specs.Primes.{allBelow}
+use Rattle.residues.specs.Primes.{allBelow}
 use Rattle.rounds.specs.declared.Round.{Round}
 use Rattle.rounds.specs.Ledger.{Frame}
 use Rattle.rounds.specs.Rounds.{oneOf, hasReported, stateChecks, stepCode}

@@ -7,9 +7,8 @@ use mathlib.Core.List.{List, []}
 use lib.Dec.{ltb, eqb}
 use lib.ListN.{length, take}
 use Rattle.refusals.specs.Codes.{code, accepted, firstOf, ifAccepted}
-use Rattle.arithmetic.specs.Primes.{isPrime}
-use Rattle.matrices.specs.Linear.{All}
-use Rattle.secrecy.specs.Lists.{tab}
+use Rattle.residues.specs.Primes.{isPrime}
+use Rattle.lists.specs.Lists.{All, tab}
 use Rattle.rounds.specs.declared.Round.{Round}
 use Rattle.rounds.specs.declared.RelayRound.{RelayRound}
 use Rattle.rounds.specs.Ledger.{Frame, named, countedAt, framesOf, everyone, Carries}

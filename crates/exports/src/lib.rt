@@ -31,7 +31,8 @@ fn pack(code: Code) -> u64
     code.number as u64 + 65536 * code.first as u64 + 65536 * 65536 * code.second as u64
 }
 
-// The number and details of an answer, without its plan: the table maker's caller has given all of it but R, which follows, and the reader's is handed it in five places.
+// The number and details of an answer, without its plan: the table maker's caller has given all of it but R, which follows, and the reader's is handed it in
+// five places.
 fn planned_code(planned: Planned) -> Code
     ensures { λ r. ⌜ r ≡ plannedCode planned ⌝ }
 {

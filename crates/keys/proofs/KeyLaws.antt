@@ -10,22 +10,22 @@ use borrow.Author.Tests.{not-false}
 use Rattle.refusals.specs.declared.Code.{Code}
 use Rattle.refusals.specs.Codes.{code, accepted, firstOf, ifAccepted}
 use Rattle.refusals.proofs.CodeLaws.{none-holds, accepted-takes}
-use Rattle.arithmetic.specs.Primes.{allBelow}
-use Rattle.arithmetic.proofs.Searches.{true→T, T-and}
-use Rattle.matrices.specs.Linear.{at}
-use Rattle.secrecy.specs.Counts.{sumTo}
-use Rattle.secrecy.specs.Lists.{tab, joinTo}
+use Rattle.residues.specs.Primes.{allBelow}
+use Rattle.lists.proofs.Searches.{true→T, T-and}
+use Rattle.lists.specs.Lists.{at, tab, joinTo}
+use Rattle.lists.specs.Sums.{sumTo}
 use Rattle.secrecy.specs.Model.{key}
-use Rattle.secrecy.proofs.Sums.{sum-cong}
-use Rattle.secrecy.proofs.ListLaws.{at-tab, length-tab, tab-cong}
+use Rattle.lists.proofs.Sums.{sum-cong}
+use Rattle.lists.proofs.ListLaws.{at-tab, length-tab, tab-cong}
 use Rattle.plans.specs.declared.Plan.{Plan}
-use Rattle.plans.specs.Plans.{poolOf, usersOf, lengthFits}
+use Rattle.plans.specs.Plans.{usersOf, lengthFits}
+use Rattle.vetting.specs.Pools.{poolOf}
 use Rattle.vetting.specs.Verdict.{vetChecks}
 use Rattle.keys.specs.Keys.{keysOf, keyChecks}
 use Rattle.refusals.proofs.Orders.{rest-decides, first-accepts}
 use Rattle.vetting.proofs.PlanLaws.{Vetted, vetted, vet-numbered}
-use Rattle.matrices.proofs.Fronts.{length-part, part-at}
-use Rattle.secrecy.proofs.Joins.{length-join, join-part}
+use Rattle.lists.proofs.Fronts.{length-part, part-at}
+use Rattle.lists.proofs.Joins.{length-join, join-part}
 
 -- ---- the derived list
 

@@ -4,37 +4,35 @@ use mathlib.Core.Path.{_≡_, refl, sym, ap, ap₂, _∙_, subst}
 use mathlib.Core.Bool.{Bool, true, false, cond, not, _&&_}
 use mathlib.Core.List.{List, [], _∷_, _++_, map}
 use native.Mathlib.Nat.{mod-lt, mod-eq-of-lt, mul-zero, div-lt-iff-lt-mul, mod-add-mod}
-use native.Mathlib.Decide.{decLt}
 use native.Mathlib.Omega.{arith}
 use lib.Arith.{digits-lt, digits-div, digits-mod}
 use lib.Dec.{leb, ltb, eqb}
-use lib.ListN.{length, take, drop, length-append, List·getD-append}
-use lib.Seq.{getD-append-add}
+use lib.ListN.{length, take, drop}
 use borrow.Author.Tests.{lt-ltb, le-ltb, le-leb, eq-eqb, ne-eqb, leb-false, not-false}
 use Rattle.secrecy.specs.Model.{columnSum, ZeroSum}
 use Rattle.refusals.specs.declared.Code.{Code}
 use Rattle.refusals.specs.Codes.{code, accepted, firstOf}
 use Rattle.refusals.proofs.CodeLaws.{NoneHolds, none-holds}
-use Rattle.arithmetic.specs.Primes.{Prime, isPrime, allBelow}
-use Rattle.arithmetic.specs.Field.{residue, powerOf, oppositeOf}
-use Rattle.arithmetic.proofs.Searches.{T→true}
-use Rattle.arithmetic.proofs.Congruence.{residue-mod}
-use Rattle.arithmetic.proofs.PrimeLaws.{true-prime, prime-true, at-below}
-use Rattle.arithmetic.proofs.PowerLaws.{power-is}
-use Rattle.arithmetic.proofs.FieldLaws.{opposite-sum}
-use Rattle.matrices.specs.Linear.{at}
-use Rattle.secrecy.specs.Counts.{sumTo}
-use Rattle.secrecy.specs.Lists.{tab}
-use Rattle.secrecy.proofs.Sums.{sum-cong}
-use Rattle.secrecy.proofs.ListLaws.{at-tab, length-tab, tab-cong, tab-at}
+use Rattle.residues.specs.Primes.{Prime, isPrime, allBelow}
+use Rattle.residues.specs.Field.{residue, powerOf, oppositeOf}
+use Rattle.lists.proofs.Searches.{T→true}
+use Rattle.residues.proofs.Congruence.{residue-mod}
+use Rattle.residues.proofs.PrimeLaws.{true-prime, prime-true, at-below}
+use Rattle.residues.proofs.PowerLaws.{power-is}
+use Rattle.residues.proofs.FieldLaws.{opposite-sum}
+use Rattle.lists.specs.Lists.{at, tab}
+use Rattle.lists.specs.Sums.{sumTo}
+use Rattle.lists.proofs.Sums.{sum-cong}
+use Rattle.lists.proofs.ListLaws.{at-tab, length-tab, tab-cong, tab-at, tab-append}
 use Rattle.plans.specs.declared.Plan.{Plan}
-use Rattle.plans.specs.Plans.{poolOf, usersOf, countsFit, inBounds}
+use Rattle.plans.specs.Plans.{usersOf, countsFit, inBounds}
+use Rattle.vetting.specs.Pools.{poolOf}
 use Rattle.vetting.specs.Walk.{pairs}
 use Rattle.vetting.specs.Verdict.{columnCheck, leakCheck, otherChecks, vetChecks, verdict}
 use Rattle.keys.specs.Maker.{rateOf, planOf, entry, lastEntry, madeTable, makerChecks}
 use Rattle.refusals.proofs.Orders.{none-decide, first-accepts}
 use Rattle.plans.proofs.PlanBounds.{Counts, counts-known, some-users, Bounds, bounds-known}
-use Rattle.matrices.proofs.Fronts.{length-part, part-at}
+use Rattle.lists.proofs.Fronts.{length-part, part-at}
 
 -- ---- the rate
 
@@ -65,20 +63,6 @@ pub tab-part : (n : ℕ) (f : ℕ → ℕ) (b k : ℕ) → b + k ≤ n → tab k
 tab-part n f b k h =
     tab-at k (λ j. f (b + j)) (take k (drop b (tab n f))) (length-part k b (tab n f) (omega (arith, length-tab n f)))
     (λ j l. sym (part-at k b (tab n f) j l ∙ at-tab n f (b + j) (omega arith)))
-
-pub tab-split : (a b : ℕ) (f : ℕ → ℕ) → tab (a + b) f ≡ tab a f ++ tab b (λ k. f (a + k))
-tab-split a b f =
-    tab-at (a + b) f (tab a f ++ tab b (λ k. f (a + k))) (length-append (tab a f) (tab b (λ k. f (a + k))) ∙ ap₂ _+_ (length-tab a f) (length-tab b (λ k. f (a + k))))
-    (λ k l. go k l (decLt k a))
-  where
-    go : (k : ℕ) → k < a + b → Dec (k < a) → f k ≡ at (tab a f ++ tab b (λ k. f (a + k))) k
-    go k l (yes h) = sym (List·getD-append (tab a f) (tab b (λ k. f (a + k))) 0 k (omega (arith, length-tab a f)) ∙ at-tab a f k h)
-    go k l (no h) =
-        sym
-        (ap (at (tab a f ++ tab b (λ k. f (a + k)))) {x = k} {y = length (tab a f) + (k - a)} (omega (arith, length-tab a f))
-        ∙ getD-append-add (tab a f) (tab b (λ k. f (a + k))) (k - a) 0
-        ∙ at-tab b (λ k. f (a + k)) (k - a) (omega arith)
-        ∙ ap f (omega arith))
 
 -- ---- the rows
 
@@ -122,7 +106,7 @@ module _ (q γ n R : ℕ) where
       let size : n * R ≡ m * R + R = omega (arith, ap (λ (z : ℕ). z * R) e) in
       sym
       (ap (λ (z : ℕ). tab z (cell q γ n R)) size
-      ∙ tab-split (m * R) R (cell q γ n R)
+      ∙ tab-append (m * R) R (cell q γ n R)
       ∙ ap₂ _++_
       (tab-cong (m * R) (cell q γ n R) (λ x. entry q γ (x / R) (x % R))
       (λ x l. ap (λ (b : Bool). cond b (entry q γ (x / R) (x % R)) (lastEntry q γ n (x % R))) (lt-ltb (x / R) m (div-lt-iff-lt-mul (omega arith) .1 l))))

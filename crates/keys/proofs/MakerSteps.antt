@@ -8,14 +8,13 @@ use lib.Arith.{digits-lt, digits-div, digits-mod}
 use lib.Dec.{eqb}
 use lib.ListN.{length, take, drop, length-append, List·getD-append}
 use lib.Seq.{length-take-le, take-at, getD-take, getD-append-add}
-use Rattle.arithmetic.specs.Field.{powerOf, oppositeOf}
-use Rattle.matrices.specs.Linear.{at}
-use Rattle.secrecy.specs.Counts.{sumTo}
-use Rattle.secrecy.specs.Lists.{tab}
-use Rattle.secrecy.proofs.Sums.{sum-cong}
-use Rattle.secrecy.proofs.ListLaws.{at-tab, length-tab, tab-cong}
+use Rattle.residues.specs.Field.{powerOf, oppositeOf}
+use Rattle.lists.specs.Lists.{at, tab}
+use Rattle.lists.specs.Sums.{sumTo}
+use Rattle.lists.proofs.Sums.{sum-cong}
+use Rattle.lists.proofs.ListLaws.{at-tab, length-tab, tab-cong}
 use Rattle.keys.specs.Maker.{entry, lastEntry}
-use Rattle.matrices.proofs.Fronts.{Front, length-part}
+use Rattle.lists.proofs.Fronts.{Front, length-part}
 use Rattle.keys.proofs.MakerLaws.{tab-part, entry-power, cell, made-split}
 
 -- ---- a row of powers

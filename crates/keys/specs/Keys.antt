@@ -6,11 +6,12 @@ use lib.Dec.{eqb}
 use lib.ListN.{length}
 use Rattle.refusals.specs.declared.Code.{Code}
 use Rattle.refusals.specs.Codes.{code, firstOf, ifAccepted}
-use Rattle.arithmetic.specs.Primes.{allBelow}
-use Rattle.secrecy.specs.Lists.{tab, joinTo}
+use Rattle.residues.specs.Primes.{allBelow}
+use Rattle.lists.specs.Lists.{tab, joinTo}
 use Rattle.secrecy.specs.Model.{key}
 use Rattle.plans.specs.declared.Plan.{Plan}
-use Rattle.plans.specs.Plans.{poolOf, usersOf, lengthFits}
+use Rattle.plans.specs.Plans.{usersOf, lengthFits}
+use Rattle.vetting.specs.Pools.{poolOf}
 use Rattle.vetting.specs.Verdict.{vetChecks}
 
 -- user by user, L symbols each

@@ -6,10 +6,10 @@ use lib.Dec.{leb, ltb, eqb}
 use lib.ListN.{length}
 use Rattle.refusals.specs.declared.Code.{Code}
 use Rattle.refusals.specs.Codes.{code, firstOf, ifAccepted}
-use Rattle.arithmetic.specs.Primes.{isPrime}
-use Rattle.arithmetic.specs.Field.{powerOf, oppositeOf}
-use Rattle.secrecy.specs.Lists.{tab}
-use Rattle.secrecy.specs.Counts.{sumTo}
+use Rattle.residues.specs.Primes.{isPrime}
+use Rattle.residues.specs.Field.{powerOf, oppositeOf}
+use Rattle.lists.specs.Lists.{tab}
+use Rattle.lists.specs.Sums.{sumTo}
 use Rattle.plans.specs.declared.Plan.{Plan}
 use Rattle.plans.specs.Plans.{countsFit, noPlan}
 use Rattle.vetting.specs.Walk.{pairs}

@@ -9,14 +9,16 @@ use lib.Dec.{T, eqb, eqb→eq}
 use borrow.Author.Tests.{not-false, eq-eqb}
 use Rattle.refusals.specs.Codes.{accepted, firstOf, ifAccepted}
 use Rattle.refusals.proofs.CodeLaws.{none-holds, accepted-takes}
-use Rattle.arithmetic.specs.Primes.{isPrime, allBelow}
-use Rattle.arithmetic.specs.Field.{sumOf, differenceOf}
-use Rattle.arithmetic.proofs.Searches.{true→T, T→true, T-and}
-use Rattle.arithmetic.proofs.PrimeLaws.{prime-pos, true-prime, at-below, below-at}
-use Rattle.arithmetic.proofs.Congruence.{residue-mod}
-use Rattle.arithmetic.proofs.FieldLaws.{sum-difference}
-use Rattle.matrices.specs.Linear.{at, Vector}
-use Rattle.secrecy.proofs.ListLaws.{at-tab, tab-at, tab-vector}
+use Rattle.residues.specs.Primes.{isPrime, allBelow}
+use Rattle.residues.specs.Field.{sumOf, differenceOf}
+use Rattle.lists.proofs.Searches.{true→T, T→true, T-and}
+use Rattle.residues.proofs.PrimeLaws.{prime-pos, true-prime, at-below, below-at}
+use Rattle.residues.proofs.Congruence.{residue-mod}
+use Rattle.residues.proofs.FieldLaws.{sum-difference}
+use Rattle.lists.specs.Lists.{at}
+use Rattle.matrices.specs.Linear.{Vector}
+use Rattle.lists.proofs.ListLaws.{at-tab, tab-at}
+use Rattle.matrices.proofs.MadeVectors.{tab-vector}
 use Rattle.plans.specs.Plans.{lengthFits}
 use Rattle.masking.specs.Blocks.{uploadOf, unmaskedOf, blockChecks, blockCode, unmaskAfter}
 use Rattle.refusals.proofs.Answers.{filled}

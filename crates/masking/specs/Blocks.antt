@@ -6,10 +6,9 @@ use lib.Dec.{eqb}
 use lib.ListN.{length}
 use Rattle.refusals.specs.declared.Code.{Code}
 use Rattle.refusals.specs.Codes.{code, firstOf, ifAccepted}
-use Rattle.arithmetic.specs.Primes.{isPrime, allBelow}
-use Rattle.arithmetic.specs.Field.{sumOf, differenceOf}
-use Rattle.matrices.specs.Linear.{at}
-use Rattle.secrecy.specs.Lists.{tab}
+use Rattle.residues.specs.Primes.{isPrime, allBelow}
+use Rattle.residues.specs.Field.{sumOf, differenceOf}
+use Rattle.lists.specs.Lists.{at, tab}
 use Rattle.plans.specs.Plans.{lengthFits}
 
 -- upload = reading + key

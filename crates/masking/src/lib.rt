@@ -4,7 +4,7 @@ ghost use Prim.Native.Nat.{_<_};
 ghost use lib.Dec.{T};
 ghost use lib.ListN.{length};
 ghost use Rattle.refusals.specs.Codes.{verdictCode};
-ghost use Rattle.arithmetic.specs.Primes.{allBelow};
+ghost use Rattle.residues.specs.Primes.{allBelow};
 ghost use Rattle.masking.specs.Blocks.{uploadOf, unmaskedOf, blockCode, uploadAfter, unmaskAfter};
 use arithmetic::Symbol;
 use arithmetic::add_symbols;

@@ -10,13 +10,16 @@ use native.Mathlib.Nat.{mod-eq-of-lt, le-of-eq}
 use native.Mathlib.Decide.{ℕ-discrete}
 use native.Mathlib.Omega.{arith}
 use lib.ListN.{length}
-use Rattle.arithmetic.specs.Primes.{Prime}
-use Rattle.arithmetic.proofs.PrimeLaws.{prime-pos}
-use Rattle.arithmetic.proofs.Congruence.{Cong, to-mod, of-eq, c-refl, c-sym, c-trans, c-add, c-mul-left, cong-zero, zero-cong, cong-one, zero-not-one}
-use Rattle.arithmetic.proofs.InverseLaws.{invert}
-use Rattle.matrices.specs.Linear.{at, All, Vector, add, scale, combN}
+use Rattle.residues.specs.Primes.{Prime}
+use Rattle.residues.proofs.PrimeLaws.{prime-pos}
+use Rattle.residues.proofs.Congruence.{Cong, to-mod, of-eq, c-refl, c-sym, c-trans, c-add, c-mul-left, cong-zero, zero-cong, cong-one, zero-not-one}
+use Rattle.residues.proofs.InverseLaws.{invert}
+use Rattle.lists.specs.Lists.{at, All}
+use Rattle.matrices.specs.Linear.{Vector, add, scale, combN}
 use Rattle.matrices.proofs.Notions.{dotN, dot, InSpan, Separated}
-use Rattle.matrices.proofs.Vectors.{all-map, all-both, dot-nil, dot-left, dot-right, dot-fit, el-left, el-comb, el-zeros, fit, vector-fit}
+use Rattle.lists.proofs.Members.{all-map, all-both}
+use Rattle.matrices.proofs.Vectors.{dot-nil, dot-left, dot-right, dot-fit, el-left, el-comb, fit, vector-fit}
+use Rattle.lists.proofs.ListLaws.{el-zeros}
 use Rattle.matrices.proofs.Spans.{span-made, span-dot, span-vector, spans-vectors}
 
 -- ---- the three facts of numbers: m is q - 1

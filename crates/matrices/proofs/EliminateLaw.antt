@@ -6,13 +6,15 @@ use mathlib.Core.List.{List, [], _∷_, _++_, map}
 use Prim.Native.Nat.{ℕ, zero, suc, _+_, _*_, _≤_, _<_}
 use native.Mathlib.Omega.{arith}
 use lib.ListN.{drop}
-use Rattle.arithmetic.specs.Primes.{Prime}
-use Rattle.arithmetic.proofs.PrimeLaws.{prime-pos}
-use Rattle.arithmetic.proofs.Congruence.{Cong, of-eq, c-refl, c-sym, c-trans, c-add, c-mul-left, cong-one, zero-not-one}
-use Rattle.matrices.specs.Linear.{All, Vector, zeros, combN, comb}
+use Rattle.residues.specs.Primes.{Prime}
+use Rattle.residues.proofs.PrimeLaws.{prime-pos}
+use Rattle.residues.proofs.Congruence.{Cong, of-eq, c-refl, c-sym, c-trans, c-add, c-mul-left, cong-one, zero-not-one}
+use Rattle.lists.specs.Lists.{All, zeros}
+use Rattle.matrices.specs.Linear.{Vector, combN, comb}
 use Rattle.matrices.proofs.Notions.{dotN, InSpan}
 use Rattle.matrices.specs.Tables.{rowOf, rowsOf, eliminated}
-use Rattle.matrices.proofs.Vectors.{dot-reduce, dot-zeros, dot-combined, el-zeros, vector-zeros, vector-comb}
+use Rattle.matrices.proofs.Vectors.{dot-reduce, dot-zeros, dot-combined, vector-zeros, vector-comb}
+use Rattle.lists.proofs.ListLaws.{el-zeros}
 use Rattle.matrices.proofs.Spans.{comb-is, span-dot}
 use Rattle.matrices.proofs.Duality.{orthogonal-cong, span-unless}
 use Rattle.matrices.proofs.Rows.{dot-pick, rows-none, rows-from}

@@ -12,16 +12,18 @@ use native.Mathlib.Omega.{arith}
 use lib.Dec.{T, ltb}
 use lib.ListN.{length, drop}
 use borrow.Author.Tests.{lt-ltb, le-ltb}
-use Rattle.arithmetic.specs.Primes.{Prime, allBelow}
-use Rattle.arithmetic.specs.Field.{inverseOf}
-use Rattle.arithmetic.proofs.Searches.{T→true, not-T→false}
-use Rattle.arithmetic.proofs.Congruence.{Cong, to-mod, of-eq, of-rem, c-refl, c-sym, c-trans, c-add, c-mul-left, c-mul-right, cong-one, zero-not-one}
-use Rattle.arithmetic.proofs.InverseLaws.{inverse-one}
-use Rattle.matrices.specs.Linear.{at, All, Vector, add, scale, zeros}
+use Rattle.residues.specs.Primes.{Prime, allBelow}
+use Rattle.residues.specs.Field.{inverseOf}
+use Rattle.lists.proofs.Searches.{T→true, not-T→false}
+use Rattle.residues.proofs.Congruence.{Cong, to-mod, of-eq, of-rem, c-refl, c-sym, c-trans, c-add, c-mul-left, c-mul-right, cong-one, zero-not-one}
+use Rattle.residues.proofs.InverseLaws.{inverse-one}
+use Rattle.lists.specs.Lists.{at, All, zeros}
+use Rattle.matrices.specs.Linear.{Vector, add, scale}
 use Rattle.matrices.proofs.Notions.{dotN, InSpan, Independent}
 use Rattle.matrices.specs.Rank.{inSpan, rankOver, rankOf}
 use Rattle.matrices.specs.Tables.{rowOf, rowsOf, pivotOf, cleared, pivotRow, hasPivot, clearedBy, eliminatedFrom, eliminated, pivotsFrom}
-use Rattle.matrices.proofs.Vectors.{all-append, all-left, all-right, all-snoc, dot-right}
+use Rattle.lists.proofs.Members.{all-append, all-left, all-right, all-snoc}
+use Rattle.matrices.proofs.Vectors.{dot-right}
 use Rattle.matrices.proofs.Spans.{span-dot, in-span-iff}
 use Rattle.matrices.proofs.Duality.{orthogonal-cong, span-unless}
 use Rattle.matrices.proofs.Steps.{rows-fit, rest-size, length-scaled, length-cleared, length-eliminated, pivot-is, no-pivot, some-pivot}

@@ -8,16 +8,19 @@ use native.Mathlib.Nat.{mod-eq-of-lt}
 use native.Mathlib.Omega.{arith}
 use lib.Dec.{T}
 use lib.ListN.{length, length-append}
-use Rattle.arithmetic.specs.Primes.{Prime}
-use Rattle.arithmetic.proofs.Searches.{T→true, T-decide}
-use Rattle.arithmetic.proofs.PrimeLaws.{prime-pos}
-use Rattle.arithmetic.proofs.Congruence.{Cong, of-eq, c-sym, c-trans, cong-zero, zero-cong, cong-one, zero-not-one, minus-number}
-use Rattle.matrices.specs.Linear.{at, All, Vector, zeros, combN}
+use Rattle.residues.specs.Primes.{Prime}
+use Rattle.lists.proofs.Searches.{T→true, T-decide}
+use Rattle.residues.proofs.PrimeLaws.{prime-pos}
+use Rattle.residues.proofs.Congruence.{Cong, of-eq, c-sym, c-trans, cong-zero, zero-cong, cong-one, zero-not-one, minus-number}
+use Rattle.lists.specs.Lists.{at, All, zeros}
+use Rattle.matrices.specs.Linear.{Vector, combN}
 use Rattle.matrices.proofs.Notions.{dotN, dot, InSpan, Independent, Solution, LinearlyIndependent, Selection}
 use Rattle.matrices.proofs.Notions.Selection.{none, take, skip}
 use Rattle.matrices.specs.Rank.{inSpan, rankOver, rankOf}
-use Rattle.matrices.proofs.Vectors.{all-snoc, all-left, all-right, all-append, all-both, dot-zeros, dot-zeroed, dot-reduce, dot-reduced, dot-combined}
-use Rattle.matrices.proofs.Vectors.{el-zeros, el-comb, el-comb-append, el-comb-zeros, length-zeros, vector-cons, vector-zeros, vector-one}
+use Rattle.lists.proofs.Members.{all-snoc, all-left, all-right, all-append, all-both}
+use Rattle.matrices.proofs.Vectors.{dot-zeros, dot-zeroed, dot-reduce, dot-reduced, dot-combined}
+use Rattle.lists.proofs.ListLaws.{el-zeros, length-zeros}
+use Rattle.matrices.proofs.Vectors.{el-comb, el-comb-append, el-comb-zeros, vector-cons, vector-zeros, vector-one}
 use Rattle.matrices.proofs.Spans.{comb-is, in-span-iff, span-at, span-dot, span-members, span-last}
 use Rattle.matrices.proofs.Duality.{span-unless}
 use Rattle.matrices.proofs.RankLaws.{cond-le, cond-most, cond-one-iff, rank-at-most, full-rank-iff, rank-larger-span}

@@ -12,4 +12,4 @@ mod RankExamples
 mod Steps
 mod Rows
 mod RankChecks
-pub mod Fronts
+pub mod MadeVectors

@@ -3,7 +3,8 @@ use mathlib.Core.Path.{_≡_}
 use mathlib.Core.List.{List, [], _∷_, _++_, map}
 use Prim.Native.Nat.{ℕ, _+_, _*_, _%_}
 use lib.ListN.{length}
-use Rattle.matrices.specs.Linear.{All, Vector, zeros, comb}
+use Rattle.lists.specs.Lists.{All, zeros}
+use Rattle.matrices.specs.Linear.{Vector, comb}
 
 -- the sum of the products of two rows, and the same modulo q
 abbrev pub dotN : List ℕ → List ℕ → ℕ

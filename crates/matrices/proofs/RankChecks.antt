@@ -8,9 +8,9 @@ use lib.ListN.{length}
 use borrow.Author.Tests.{not-false, eqb-true}
 use Rattle.refusals.specs.Codes.{accepted, firstOf}
 use Rattle.refusals.proofs.CodeLaws.{none-holds}
-use Rattle.arithmetic.specs.Primes.{Prime, isPrime, allBelow}
-use Rattle.arithmetic.proofs.Searches.{true→T, T-and}
-use Rattle.arithmetic.proofs.PrimeLaws.{true-prime, prime-pos}
+use Rattle.residues.specs.Primes.{Prime, isPrime, allBelow}
+use Rattle.lists.proofs.Searches.{true→T, T-and}
+use Rattle.residues.proofs.PrimeLaws.{true-prime, prime-pos}
 use Rattle.matrices.specs.Entries.{rankChecks}
 use Rattle.matrices.proofs.Elimination.{Table, table-of}
 

@@ -7,12 +7,13 @@ use Prim.Native.Nat.{ℕ, _+_, _≤_, _<_}
 use native.Mathlib.Omega.{arith}
 use lib.Dec.{T}
 use lib.ListN.{length}
-use Rattle.arithmetic.specs.Primes.{Prime}
-use Rattle.arithmetic.proofs.PrimeLaws.{prime-pos}
-use Rattle.matrices.specs.Linear.{All, Vector}
+use Rattle.residues.specs.Primes.{Prime}
+use Rattle.residues.proofs.PrimeLaws.{prime-pos}
+use Rattle.lists.specs.Lists.{All}
+use Rattle.matrices.specs.Linear.{Vector}
 use Rattle.matrices.proofs.Notions.{InSpan, Independent}
 use Rattle.matrices.specs.Rank.{inSpan, rankOver}
-use Rattle.matrices.proofs.Vectors.{all-snoc, all-map}
+use Rattle.lists.proofs.Members.{all-snoc, all-map}
 use Rattle.matrices.proofs.Spans.{in-span-iff, span-members, spans-vectors, spans-snoc}
 use Rattle.matrices.proofs.Duality.{span-trans}
 

@@ -10,11 +10,12 @@ use lib.Dec.{eqb, T}
 use lib.ListN.{length, take, drop, length-drop, take-append-drop}
 use lib.Seq.{take-at, drop-append-add, drop-append-le, take-append-le, drop-drop, length-take-le, getD-take, getD-drop}
 use borrow.Author.Tests.{eq-eqb, ne-eqb}
-use Rattle.arithmetic.specs.Field.{residue, oppositeOf}
-use Rattle.arithmetic.specs.Primes.{allBelow}
-use Rattle.arithmetic.proofs.Congruence.{Cong, of-eq, of-rem, c-refl, c-trans, c-add, c-mul-left, c-mul-right, residue-mod, of-residue}
-use Rattle.arithmetic.proofs.PrimeLaws.{below-at}
-use Rattle.matrices.specs.Linear.{at, Vector, zeros}
+use Rattle.residues.specs.Field.{residue, oppositeOf}
+use Rattle.residues.specs.Primes.{allBelow}
+use Rattle.residues.proofs.Congruence.{Cong, of-eq, of-rem, c-refl, c-trans, c-add, c-mul-left, c-mul-right, residue-mod, of-residue}
+use Rattle.residues.proofs.PrimeLaws.{below-at}
+use Rattle.lists.specs.Lists.{at, zeros}
+use Rattle.matrices.specs.Linear.{Vector}
 use Rattle.matrices.proofs.Notions.{dotN}
 use Rattle.matrices.specs.Tables.{rowOf, rowsOf, pivotOf, scaled, fused, cleared, eachRow}
 use Rattle.matrices.proofs.Vectors.{vector-nil, vector-cons}

@@ -6,13 +6,16 @@ use Prim.Native.Nat.{ℕ, _+_, _-_, _*_, _≤_}
 use native.Mathlib.Nat.{mod-eq-of-lt, suc-ne-zero}
 use native.Mathlib.Omega.{arith}
 use lib.ListN.{length}
-use Rattle.arithmetic.specs.Primes.{Prime}
-use Rattle.arithmetic.proofs.PrimeLaws.{prime-pos}
-use Rattle.arithmetic.proofs.Congruence.{Cong, to-mod, of-eq, c-refl, c-trans, c-add, c-mul-left, cong-zero, zero-cong, cong-one}
-use Rattle.matrices.specs.Linear.{All, Vector, add, scale, zeros, reduce}
+use Rattle.residues.specs.Primes.{Prime}
+use Rattle.residues.proofs.PrimeLaws.{prime-pos}
+use Rattle.residues.proofs.Congruence.{Cong, to-mod, of-eq, c-refl, c-trans, c-add, c-mul-left, cong-zero, zero-cong, cong-one}
+use Rattle.lists.specs.Lists.{All, zeros}
+use Rattle.matrices.specs.Linear.{Vector, add, scale, reduce}
 use Rattle.matrices.proofs.Notions.{dotN, dot, InSpan, Separated, Independent, Solution}
-use Rattle.matrices.proofs.Vectors.{all-snoc, all-left, all-right, all-made, all-map, all-both, dot-right, dot-reduced, dot-zeroed}
-use Rattle.matrices.proofs.Vectors.{length-add, length-scale, length-zeros, vector-cons, vector-head, vector-tail, vector-reduce, vector-one}
+use Rattle.lists.proofs.Members.{all-snoc, all-left, all-right, all-made, all-map, all-both}
+use Rattle.matrices.proofs.Vectors.{dot-right, dot-reduced, dot-zeroed}
+use Rattle.matrices.proofs.Vectors.{length-add, length-scale, vector-cons, vector-head, vector-tail, vector-reduce, vector-one}
+use Rattle.lists.proofs.ListLaws.{length-zeros}
 use Rattle.matrices.proofs.Duality.{duality, not-both}
 
 -- ---- one row more

@@ -9,12 +9,15 @@ use native.Mathlib.Omega.{arith}
 use lib.Dec.{T, eqb, eqb→eq, eqb-refl}
 use lib.ListN.{length, length-append}
 use lib.Seq.{ext-getD}
-use Rattle.arithmetic.proofs.Searches.{T-and, and-T, any-found, any-at}
-use Rattle.arithmetic.proofs.Congruence.{Cong, to-mod, of-eq, of-rem, c-sym, c-trans}
-use Rattle.matrices.specs.Linear.{at, All, Vector, zeros, reduce, combN, comb}
+use Rattle.lists.proofs.Searches.{T-and, and-T, any-found, any-at}
+use Rattle.residues.proofs.Congruence.{Cong, to-mod, of-eq, of-rem, c-sym, c-trans}
+use Rattle.lists.specs.Lists.{at, All, zeros}
+use Rattle.matrices.specs.Linear.{Vector, reduce, combN, comb}
 use Rattle.matrices.proofs.Notions.{dotN, InSpan}
 use Rattle.matrices.specs.Rank.{anyList, sameList, inSpan}
-use Rattle.matrices.proofs.Vectors.{all-right, all-append, all-snoc, all-map, dot-reduce, dot-comb, length-reduce, length-zeros, length-comb}
+use Rattle.lists.proofs.Members.{all-right, all-append, all-snoc, all-map}
+use Rattle.matrices.proofs.Vectors.{dot-reduce, dot-comb, length-reduce, length-comb}
+use Rattle.lists.proofs.ListLaws.{length-zeros}
 use Rattle.matrices.proofs.Vectors.{el-reduce, el-comb, el-comb-append, el-comb-zeros, el-comb-reduce}
 use Rattle.matrices.proofs.Vectors.{vector-nil, vector-cons, vector-head, vector-tail, vector-reduce, vector-comb}
 

@@ -10,7 +10,7 @@ use lib.Dec.{eqb, ltb}
 use lib.ListN.{length, getD, take, drop, set, drop-of-length-le, length-append, length-drop, take-append-drop}
 use lib.Seq.{drop-cons, take-suc-set, drop-set-lt, take-all, take-at, drop-at, length-take-le, getD-take, getD-drop}
 use borrow.Author.Tests.{eq-eqb, ne-eqb, lt-ltb, le-leb}
-use Rattle.arithmetic.specs.Field.{oppositeOf, productOf, mulAddOf, inverseOf}
+use Rattle.residues.specs.Field.{oppositeOf, productOf, mulAddOf, inverseOf}
 use Rattle.matrices.specs.Tables.{rowOf, pivotOf, scaled, fused, cleared, pivotRow, eachRow, hasPivot, clearedBy, eliminatedFrom, reducedFrom, pivotsFrom}
 
 -- ---- the next place of a loop over n places

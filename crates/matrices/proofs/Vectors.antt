@@ -4,53 +4,12 @@ use mathlib.Core.List.{List, [], _∷_, _++_, map}
 use Prim.Native.Nat.{ℕ, zero, suc, _+_, _*_, _%_, _≤_, _<_, suc-le-suc}
 use native.Mathlib.Nat.{le-of-suc-le-suc, not-suc-le-zero, zero-lt-suc, zero-mod, mod-lt, suc-inj, suc-ne-zero}
 use native.Mathlib.Omega.{arith}
-use lib.ListN.{length, getD, length-map, length-replicate}
-use Rattle.arithmetic.proofs.Congruence.{Cong, of-eq, of-rem, c-refl, c-trans, c-add, c-mul-left, c-mul-right}
-use Rattle.matrices.specs.Linear.{at, All, Vector, add, scale, zeros, reduce, combN, comb}
+use lib.ListN.{length, length-map}
+use Rattle.residues.proofs.Congruence.{Cong, of-eq, of-rem, c-refl, c-trans, c-add, c-mul-left, c-mul-right}
+use Rattle.lists.specs.Lists.{at, All, zeros}
+use Rattle.matrices.specs.Linear.{Vector, add, scale, reduce, combN, comb}
 use Rattle.matrices.proofs.Notions.{dotN}
-
--- ---- each member
-
-module _ {A : Type 0} (P : A → Type 0) where
-  -- each member of two lists is a member of one after the other
-  pub all-append : (a b : List A) → All P a → All P b → All P (a ++ b)
-  all-append [] b h k = k
-  all-append (x ∷ a) b h k = (h .0, all-append a b (h .1) k)
-
-  -- one member more at the end
-  pub all-snoc : (a : List A) (x : A) → All P a → P x → All P (a ++ (x ∷ []))
-  all-snoc a x h p = all-append a (x ∷ []) h (p, tt)
-
-  -- each member of the first list
-  pub all-left : (a b : List A) → All P (a ++ b) → All P a
-  all-left [] b h = tt
-  all-left (x ∷ a) b h = (h .0, all-left a b (h .1))
-
-  -- each member of the second list
-  pub all-right : (a b : List A) → All P (a ++ b) → All P b
-  all-right [] b h = h
-  all-right (x ∷ a) b h = all-right a b (h .1)
-
-  -- what every element has, each member has
-  pub all-made : (l : List A) → ((x : A) → P x) → All P l
-  all-made [] f = tt
-  all-made (x ∷ l) f = (f x, all-made l f)
-
-  -- the member at index i
-  pub all-at : (l : List A) → All P l → (i : ℕ) → i < length l → (d : A) → P (getD l i d)
-  all-at [] h i k d = absurd (not-suc-le-zero k)
-  all-at (x ∷ l) h zero k d = h .0
-  all-at (x ∷ l) h (suc i) k d = all-at l (h .1) i (le-of-suc-le-suc k) d
-
--- from one property of each member to another
-pub all-map : {A : Type 0} (P Q : A → Type 0) → ((x : A) → P x → Q x) → (l : List A) → All P l → All Q l
-all-map P Q f [] h = tt
-all-map P Q f (x ∷ l) h = (f x (h .0), all-map P Q f l (h .1))
-
--- from two properties of each member to a third
-pub all-both : {A : Type 0} (P Q R : A → Type 0) → ((x : A) → P x → Q x → R x) → (l : List A) → All P l → All Q l → All R l
-all-both P Q R f [] h k = tt
-all-both P Q R f (x ∷ l) h k = (f x (h .0) (k .0), all-both P Q R f l (h .1) (k .1))
+use Rattle.lists.proofs.ListLaws.{el-zeros, length-zeros}
 
 -- ---- the product is linear on both sides
 
@@ -156,12 +115,6 @@ el-scale k (a ∷ x) (suc i) = el-scale k x i
 pub el-left : (x y : List ℕ) (k i : ℕ) → at (add x (scale k y)) i ≡ at x i + k * at y i
 el-left x y k i = omega (arith, el-add x (scale k y) i, el-scale k y i)
 
--- an entry of zeros
-pub el-zeros : (n i : ℕ) → at (zeros n) i ≡ 0
-el-zeros zero i = refl
-el-zeros (suc n) zero = refl
-el-zeros (suc n) (suc i) = el-zeros n i
-
 -- an entry of the remainders
 pub el-reduce : (q : ℕ) (x : List ℕ) (i : ℕ) → at (reduce q x) i ≡ at x i % q
 el-reduce q [] i = sym (zero-mod q)
@@ -212,10 +165,6 @@ length-scale k (a ∷ x) = ap suc (length-scale k x)
 -- the length of the remainders
 pub length-reduce : (q : ℕ) (x : List ℕ) → length (reduce q x) ≡ length x
 length-reduce q x = length-map x (λ (a : ℕ). a % q)
-
--- the length of zeros
-pub length-zeros : (n : ℕ) → length (zeros n) ≡ n
-length-zeros n = length-replicate n 0
 
 -- the length of a combination
 pub length-comb : (q n : ℕ) (cs : List ℕ) (S : List (List ℕ)) → All (Vector q n) S → length (combN n cs S) ≡ n

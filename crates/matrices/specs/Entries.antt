@@ -6,7 +6,7 @@ use lib.Dec.{leb, eqb}
 use lib.ListN.{length}
 use Rattle.refusals.specs.declared.Code.{Code}
 use Rattle.refusals.specs.Codes.{code, accepted, codeOf, Outcome}
-use Rattle.arithmetic.specs.Primes.{isPrime, allBelow}
+use Rattle.residues.specs.Primes.{isPrime, allBelow}
 use Rattle.matrices.specs.declared.Ranked.{Ranked}
 use Rattle.matrices.specs.declared.Ranked.the-variants.{Rank, Refused}
 

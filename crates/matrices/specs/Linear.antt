@@ -2,16 +2,8 @@
 use mathlib.Core.Path.{_≡_}
 use mathlib.Core.List.{List, [], _∷_, map}
 use Prim.Native.Nat.{ℕ, _+_, _*_, _%_, _<_}
-use lib.ListN.{length, getD, replicate}
-
--- the entry at index i, 0 past the end
-abbrev pub at : List ℕ → ℕ → ℕ
-at r i = getD r i 0
-
--- each member of a list has the property
-abbrev pub All : {A : Type 0} → (A → Type 0) → List A → Type 0
-All P [] = Unit {0}
-All P (x ∷ l) = P x × All P l
+use lib.ListN.{length}
+use Rattle.lists.specs.Lists.{at, zeros}
 
 -- n numbers below q
 pub record Vector (q n : ℕ) (r : List ℕ) : Type 0 where
@@ -27,9 +19,6 @@ add (a ∷ x) (b ∷ y) = (a + b) ∷ add x y
 abbrev pub scale : ℕ → List ℕ → List ℕ
 scale k [] = []
 scale k (a ∷ x) = (k * a) ∷ scale k x
-
-abbrev pub zeros : ℕ → List ℕ
-zeros n = replicate n 0
 
 abbrev pub reduce : ℕ → List ℕ → List ℕ
 reduce q = map (λ (a : ℕ). a % q)

@@ -4,7 +4,7 @@ use mathlib.Core.Bool.{Bool, true, false, cond, _&&_}
 use mathlib.Core.List.{List, [], _∷_, _++_}
 use lib.Dec.{eqb}
 use lib.ListN.{length}
-use Rattle.arithmetic.specs.Search.{anyTo}
+use Rattle.lists.specs.Search.{anyTo}
 use Rattle.matrices.specs.Linear.{comb}
 
 -- has some list of n numbers below q the property?

@@ -5,8 +5,8 @@ use mathlib.Core.Bool.{Bool, cond, _&&_}
 use mathlib.Core.List.{List, [], _∷_, _++_}
 use lib.Dec.{eqb, ltb, leb}
 use lib.ListN.{length, take, drop}
-use Rattle.arithmetic.specs.Field.{oppositeOf, productOf, mulAddOf, inverseOf}
-use Rattle.matrices.specs.Linear.{at}
+use Rattle.residues.specs.Field.{oppositeOf, productOf, mulAddOf, inverseOf}
+use Rattle.lists.specs.Lists.{at}
 
 -- row j, and all rows
 abbrev pub rowOf : ℕ → List ℕ → ℕ → List ℕ

@@ -8,10 +8,10 @@ use native.Mathlib.Decide.{decLt}
 use native.Mathlib.Omega.{arith}
 use lib.Dec.{T, leb, eqb, leb→le, eqb→eq}
 use borrow.Author.Tests.{eq-eqb}
-use Rattle.arithmetic.specs.Search.{anyTo, allTo}
-use Rattle.arithmetic.specs.Primes.{Prime}
-use Rattle.arithmetic.proofs.Searches.{T→true, true→T, T-and, any-found, all-at}
-use Rattle.arithmetic.proofs.PrimeLaws.{undivided-prime}
+use Rattle.lists.specs.Search.{anyTo, allTo}
+use Rattle.residues.specs.Primes.{Prime}
+use Rattle.lists.proofs.Searches.{T→true, true→T, T-and, any-found, all-at}
+use Rattle.residues.proofs.PrimeLaws.{undivided-prime}
 use Rattle.plans.specs.declared.Plan.{Plan}
 use Rattle.plans.specs.Plans.{usersOf, countsFit, lengthFits, inBounds, LargestPrime}
 

@@ -9,8 +9,8 @@ use borrow.Author.Tests.{not-false, eqb-true}
 use Rattle.refusals.specs.declared.Code.{Code}
 use Rattle.refusals.specs.Codes.{accepted, firstOf}
 use Rattle.refusals.proofs.CodeLaws.{numbered, none-holds}
-use Rattle.arithmetic.specs.Primes.{Prime, isPrime, allBelow}
-use Rattle.arithmetic.proofs.PrimeLaws.{true-prime}
+use Rattle.residues.specs.Primes.{Prime, isPrime, allBelow}
+use Rattle.residues.proofs.PrimeLaws.{true-prime}
 use Rattle.plans.specs.declared.Plan.{Plan}
 use Rattle.plans.specs.Plans.{usersOf, inBounds, tableChecks}
 

@@ -1,4 +1,4 @@
--- The plan (document 01: "The pool and its plan"): its counts, their bounds, what the equations speak of, and the checks of a key table.
+-- The plan (document 01: "The pool and its plan"): its counts, their bounds, and the checks of a key table.
 use Prim.Native.Nat.{ℕ, _*_, _≤_, _<_}
 use mathlib.Core.Bool.{Bool, not, _&&_}
 use mathlib.Core.List.{List, [], _∷_}
@@ -6,15 +6,10 @@ use lib.Dec.{leb, eqb}
 use lib.ListN.{length}
 use Rattle.refusals.specs.declared.Code.{Code}
 use Rattle.refusals.specs.Codes.{code, accepted, codeOf, firstOf, ifAccepted}
-use Rattle.arithmetic.specs.Primes.{Prime, isPrime, allBelow}
-use Rattle.secrecy.specs.Model.{Pool}
+use Rattle.residues.specs.Primes.{Prime, isPrime, allBelow}
 use Rattle.plans.specs.declared.Plan.{Plan}
 use Rattle.plans.specs.declared.Planned.{Planned}
 use Rattle.plans.specs.declared.Planned.the-variants.{Made, Refused}
-
--- the plan's clusters, sizes, rate, prime and key table
-abbrev pub poolOf : Plan → List ℕ → Pool
-poolOf P K = record { clusters = P .clusters; size = P .size; rate = P .rate; q = P .q; table = K }
 
 abbrev pub usersOf : Plan → ℕ
 usersOf P = P .clusters * P .size

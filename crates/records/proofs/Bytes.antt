@@ -8,8 +8,8 @@ use lib.Dec.{ltb}
 use lib.ListN.{length, drop, length-append, List·getD-eq-default}
 use lib.Seq.{drop-cons, getD-append-seam, getD-append-add}
 use borrow.Author.Tests.{lt-ltb, le-ltb}
-use Rattle.arithmetic.specs.Primes.{allBelow}
-use Rattle.matrices.specs.Linear.{at}
+use Rattle.residues.specs.Primes.{allBelow}
+use Rattle.lists.specs.Lists.{at}
 use Rattle.records.specs.Records.{word, bytesOf, wordsOf, bytesOfAll}
 
 -- every number is a byte: past its end a list reads 0, so no length is asked

@@ -6,7 +6,7 @@ use native.Mathlib.Numerals.{add-one}
 use native.Mathlib.Omega.{arith}
 use lib.ListN.{length, take, drop, set, replicate, length-append, length-replicate, length-drop, drop-of-length-le}
 use lib.Seq.{take-suc, take-suc-set, take-all, take-at, drop-at, length-take-le, sets, sets-eq}
-use Rattle.matrices.specs.Linear.{at}
+use Rattle.lists.specs.Lists.{at}
 use Rattle.records.specs.Records.{padded}
 
 -- the list is W up to k, and is stored W's next number

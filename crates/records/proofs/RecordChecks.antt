@@ -10,8 +10,8 @@ use lib.ListN.{length}
 use borrow.Author.Tests.{not-false, eqb-true}
 use Rattle.refusals.specs.Codes.{accepted}
 use Rattle.refusals.proofs.CodeLaws.{none-holds}
-use Rattle.arithmetic.specs.Primes.{isPrime, allBelow}
-use Rattle.arithmetic.proofs.Searches.{true→T, T-and}
+use Rattle.residues.specs.Primes.{isPrime, allBelow}
+use Rattle.lists.proofs.Searches.{true→T, T-and}
 use Rattle.plans.specs.declared.Plan.{Plan}
 use Rattle.plans.specs.Plans.{usersOf, inBounds}
 use Rattle.records.specs.Records.{wordsOf, recordSize, distance, start, badTrailer, planRead, tableRead, readChecks, readVerdict, writeChecks, writeVerdict}

@@ -4,8 +4,8 @@ use mathlib.Core.Path.{_≡_, refl}
 use mathlib.Core.List.{List, [], _∷_}
 use lib.ListN.{set, replicate}
 use Rattle.refusals.specs.Codes.{code, accepted}
-use Rattle.arithmetic.specs.Search.{allTo}
-use Rattle.arithmetic.specs.Primes.{isPrime, allBelow}
+use Rattle.lists.specs.Search.{allTo}
+use Rattle.residues.specs.Primes.{isPrime, allBelow}
 use Rattle.plans.specs.Plans.{plan}
 use Rattle.records.specs.Records.{wordsOf, bytesOfAll, recordOf, planRead, tableRead, readVerdict}
 

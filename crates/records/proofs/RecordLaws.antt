@@ -8,8 +8,8 @@ use lib.ListN.{length, drop, length-append, drop-of-length-le}
 use lib.Seq.{getD-append-add}
 use borrow.Author.Tests.{eq-eqb}
 use Rattle.refusals.specs.Codes.{accepted}
-use Rattle.arithmetic.specs.Primes.{isPrime, allBelow}
-use Rattle.matrices.specs.Linear.{at}
+use Rattle.residues.specs.Primes.{isPrime, allBelow}
+use Rattle.lists.specs.Lists.{at}
 use Rattle.plans.specs.declared.Plan.{Plan}
 use Rattle.plans.specs.Plans.{usersOf, inBounds}
 use Rattle.records.specs.Records.{word, bytesOf, wordsOf, bytesOfAll, recordSize, recordOf, distance, start, badTrailer, planRead, tableRead, readVerdict, writeVerdict}

@@ -7,8 +7,8 @@ use native.Mathlib.Omega.{arith}
 use lib.Dec.{eqb, ltb}
 use lib.ListN.{length}
 use borrow.Author.Tests.{ltb-false, eqb-true, not-false, le-ltb, eq-eqb}
-use Rattle.arithmetic.proofs.Searches.{false→not-T}
-use Rattle.matrices.specs.Linear.{at}
+use Rattle.lists.proofs.Searches.{false→not-T}
+use Rattle.lists.specs.Lists.{at}
 use Rattle.records.specs.Records.{distance, start, badTrailer}
 
 pub record Trailer (B : List ℕ) : Type 0 where

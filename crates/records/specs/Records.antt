@@ -6,11 +6,10 @@ use lib.Dec.{ltb, eqb}
 use lib.ListN.{length, replicate}
 use Rattle.refusals.specs.declared.Code.{Code}
 use Rattle.refusals.specs.Codes.{code, firstOf, ifAccepted}
-use Rattle.arithmetic.specs.Primes.{isPrime, allBelow}
-use Rattle.matrices.specs.Linear.{at}
+use Rattle.residues.specs.Primes.{isPrime, allBelow}
+use Rattle.lists.specs.Lists.{at}
 use Rattle.plans.specs.declared.Plan.{Plan}
-use Rattle.plans.specs.Plans.{usersOf, inBounds, noPlan}
-use Rattle.plans.specs.Plans.{tableChecks}
+use Rattle.plans.specs.Plans.{usersOf, inBounds, noPlan, tableChecks}
 
 -- two bytes, low first
 abbrev pub word : List ℕ → ℕ → ℕ

@@ -7,7 +7,7 @@ use native.Mathlib.Omega.{arith}
 use lib.Dec.{ltb}
 use lib.ListN.{length, set, length-append}
 use borrow.Author.Tests.{lt-ltb, le-ltb}
-use Rattle.matrices.specs.Linear.{zeros}
+use Rattle.lists.specs.Lists.{zeros}
 use Rattle.reports.specs.declared.Line.{Line}
 use Rattle.reports.specs.Program.{digitsOf, decimal, lineWith}
 use Rattle.reports.specs.Typing.{typed}

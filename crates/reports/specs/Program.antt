@@ -6,7 +6,7 @@ use lib.Dec.{ltb}
 use lib.ListN.{length}
 use Rattle.refusals.specs.declared.Code.{Code}
 use Rattle.refusals.specs.Codes.{code, firstOf}
-use Rattle.matrices.specs.Linear.{zeros}
+use Rattle.lists.specs.Lists.{zeros}
 use Rattle.reports.specs.declared.Line.{Line}
 use Rattle.records.specs.Records.{planRead, tableRead, readChecks}
 use Rattle.vetting.specs.Verdict.{vetChecks}

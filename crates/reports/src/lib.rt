@@ -4,7 +4,7 @@ ghost use mathlib.Core.List.{[], _∷_};
 ghost use Prim.Native.Nat.{_+_, _*_, _≤_, _<_};
 ghost use lib.ListN.{length};
 ghost use Rattle.refusals.specs.Codes.{verdictCode};
-ghost use Rattle.matrices.specs.Linear.{zeros};
+ghost use Rattle.lists.specs.Lists.{zeros};
 ghost use Rattle.reports.specs.Program.{programCode, decimal, field, lineOf, lineWith};
 ghost use Rattle.reports.specs.Typing.{typed};
 use arithmetic::Symbol;

@@ -7,28 +7,27 @@ use mathlib.Core.List.{List, [], _∷_, _++_}
 use native.Mathlib.Nat.{add-zero, mod-lt, mod-eq-of-lt}
 use native.Mathlib.Decide.{ℕ-discrete, decLt}
 use native.Mathlib.Omega.{arith}
-use lib.Dec.{T, leb, ltb, eqb, leb→le}
+use lib.Dec.{leb, ltb, eqb, leb→le}
 use lib.ListN.{length, take, drop, length-drop}
 use lib.Seq.{getD-take, getD-drop, length-take-le}
 use borrow.Author.Tests.{not-false, eq-eqb, ne-eqb, lt-ltb, le-ltb}
 use Rattle.refusals.specs.declared.Code.{Code}
 use Rattle.refusals.specs.Codes.{code, accepted, firstOf, ifAccepted}
-use Rattle.refusals.proofs.CodeLaws.{numbered, none-holds}
-use Rattle.arithmetic.specs.Primes.{allBelow}
-use Rattle.arithmetic.proofs.Searches.{T→true, true→T, T-and}
-use Rattle.arithmetic.proofs.Congruence.{c-refl, c-add, of-rem, to-mod}
-use Rattle.arithmetic.proofs.PrimeLaws.{prime-pos, below-at, at-below}
-use Rattle.matrices.specs.Linear.{at}
-use Rattle.secrecy.specs.Lists.{tab}
-use Rattle.secrecy.proofs.ListLaws.{at-tab, length-tab, tab-at, tab-cong}
-use Rattle.refusals.proofs.Orders.{rest-decides}
+use Rattle.refusals.proofs.CodeLaws.{none-holds}
+use Rattle.residues.specs.Primes.{allBelow}
+use Rattle.lists.proofs.Searches.{T→true, true→T, T-and}
+use Rattle.residues.proofs.Congruence.{c-refl, c-add, of-rem, to-mod}
+use Rattle.residues.proofs.PrimeLaws.{prime-pos, below-at, at-below}
+use Rattle.lists.specs.Lists.{at, tab}
+use Rattle.lists.proofs.ListLaws.{at-tab, length-tab, tab-at, tab-cong}
+use Rattle.refusals.proofs.Orders.{first-decides, rest-decides, number-accepts}
 use Rattle.rounds.specs.declared.Round.{Round}
 use Rattle.rounds.specs.Ledger.{Frame, named, bitsOf, countedAt}
-use Rattle.arithmetic.specs.Bits.{hasBit}
+use Rattle.lists.specs.Bits.{hasBit}
 use Rattle.rounds.specs.Machine.{Good}
 use Rattle.rounds.specs.Rounds.{oneOf, sumsFit, stateChecks, hasReported, isFull, after, ownChecks, lentChecks, frameChecks, giveChecks, stepCode, stepped, giveCode, sumsAfter, answersOf, runOf, noted, ledgerAnswers, ledgerOf, ledgerGiveCode, ledgerSums}
 use Rattle.rounds.proofs.CheckLaws.{good-state, Passed, frame-known}
-use Rattle.rounds.proofs.ReportedLaws.{true-not-false, bit-added, added-below}
+use Rattle.rounds.proofs.ReportedLaws.{bit-added, added-below}
 use Rattle.rounds.proofs.StepLaws.{all-cong, or-none, past-zero}
 
 -- ---- a ledger with one frame more
@@ -52,28 +51,6 @@ pub counted-more : (ledger : List Frame) (f : Frame) (p : ℕ) → countedAt (le
 unfolding countedAt
 counted-more [] f p = omega arith
 counted-more (g ∷ ledger) f p = omega (arith, counted-more ledger f p)
-
--- ---- what a code of number 0, or of another, says of its checks
-
-pub number-zero : (checks : List (Bool × Code)) → T (numbered checks) → eqb (firstOf checks .number) 0 ≡ true → accepted ≡ firstOf checks
-number-zero [] t e = refl
-number-zero (check ∷ checks) t e =
-    let (here, rest) = T-and (not (eqb (check .1 .number) 0)) (numbered checks) t in
-    step (check .0) here e (number-zero checks rest)
-  where
-    step : (h : Bool) → T (not (eqb (check .1 .number) 0)) → eqb (cond h (check .1) (firstOf checks) .number) 0 ≡ true
-        → (eqb (firstOf checks .number) 0 ≡ true → accepted ≡ firstOf checks) → accepted ≡ cond h (check .1) (firstOf checks)
-    step true here e ih = absurd (subst (λ (b : Bool). T (not b)) e here)
-    step false here e ih = ih e
-
-pub refused-decides : (a b : List (Bool × Code)) → eqb (firstOf a .number) 0 ≡ false → firstOf (a ++ b) ≡ firstOf a
-refused-decides [] b e = absurd (true-not-false e)
-refused-decides (check ∷ a) b e = step (check .0) e (refused-decides a b)
-  where
-    step : (h : Bool) → eqb (cond h (check .1) (firstOf a) .number) 0 ≡ false → (eqb (firstOf a .number) 0 ≡ false → firstOf (a ++ b) ≡ firstOf a)
-        → cond h (check .1) (firstOf (a ++ b)) ≡ cond h (check .1) (firstOf a)
-    step true e ih = refl
-    step false e ih = ih e
 
 eqb-less : (a b : ℕ) → 1 ≤ a → 1 ≤ b → eqb (a - 1) (b - 1) ≡ eqb a b
 eqb-less a b h l = go (ℕ-discrete a b)
@@ -234,7 +211,7 @@ module _ (senders : ℕ) (known : Bool) (R : Round) where
               → (stepped senders known (after R ledger) f ≡ after R (noted senders known R ledger f)) × Sound senders R (noted senders known R ledger f)
           go true n =
               let is : noted senders known R ledger f ≡ ledger ++ (f ∷ []) = ap (λ (t : Bool). cond t (ledger ++ (f ∷ [])) ledger) n in
-              let p : Passed senders R ledger f = frame-known senders known R ledger f (number-zero (frameChecks senders known R ledger f) tt n) in (
+              let p : Passed senders R ledger f = frame-known senders known R ledger f (number-accepts (frameChecks senders known R ledger f) tt n) in (
                 first ∙ ap (λ (t : Bool). cond t next (after R ledger)) n ∙ after-twice ledger f ∙ ap (after R) (sym is),
                 subst (Sound senders R) (sym is) (sound-more senders R ledger f sound p),
               )
@@ -267,7 +244,7 @@ module _ (senders : ℕ) (known : Bool) (R : Round) where
   unfolding answersOf runOf ledgerAnswers ledgerOf
   idle n [] = (refl, refl, refl)
   idle n (f ∷ frames) =
-      let same : firstOf (frameChecks senders known R [] f) ≡ firstOf (stateChecks senders known R) = refused-decides (stateChecks senders known R) (ownChecks senders R [] f) n in
+      let same : firstOf (frameChecks senders known R [] f) ≡ firstOf (stateChecks senders known R) = sym (first-decides (stateChecks senders known R) (ownChecks senders R [] f) n) in
       let no : eqb (firstOf (frameChecks senders known R [] f) .number) 0 ≡ false = ap (λ (c : Code). eqb (c .number) 0) same ∙ n in
       let stays : stepped senders known R f ≡ R = ap (λ (t : Bool). cond t (after R (f ∷ [])) R) no in
       let none : noted senders known R [] f ≡ [] = ap (λ (t : Bool). cond t (f ∷ []) []) no in
@@ -301,7 +278,7 @@ module _ (senders : ℕ) (known : Bool) (R : Round) where
             → (answersOf senders known R frames ≡ ledgerAnswers senders known R [] frames)
             × (runOf senders known R frames ≡ ifAccepted (firstOf (stateChecks senders known R)) (after R (ledgerOf senders known R [] frames)) R)
         go true n =
-            let (a, r, s) = good-run (number-zero (stateChecks senders known R) tt n) sixty-four frames in
+            let (a, r, s) = good-run (number-accepts (stateChecks senders known R) tt n) sixty-four frames in
             (a, r ∙ sym (ap (λ (t : Bool). cond t (after R (ledgerOf senders known R [] frames)) R) n))
         go false n =
             let (a, r, l) = idle n frames in
@@ -317,7 +294,7 @@ module _ (senders : ℕ) (known : Bool) (R : Round) where
             → (giveCode senders known (runOf senders known R frames) out ≡ ledgerGiveCode senders known R (ledgerOf senders known R [] frames) out)
             × (sumsAfter senders known (runOf senders known R frames) out ≡ ledgerSums senders known R (ledgerOf senders known R [] frames) out)
         go true n =
-            let e : accepted ≡ firstOf (stateChecks senders known R) = number-zero (stateChecks senders known R) tt n in
+            let e : accepted ≡ firstOf (stateChecks senders known R) = number-accepts (stateChecks senders known R) tt n in
             let (a, r, s) = good-run e sixty-four frames in
             let same = give-same e (ledgerOf senders known R [] frames) s out in (
               ap (λ (X : Round). giveCode senders known X out) r ∙ same,
@@ -326,7 +303,7 @@ module _ (senders : ℕ) (known : Bool) (R : Round) where
             )
         go false n =
             let (a, r, l) = idle n frames in
-            let here = refused-decides (stateChecks senders known R) (lentChecks senders R [] (length out)) n in
+            let here = sym (first-decides (stateChecks senders known R) (lentChecks senders R [] (length out)) n) in
             let no : eqb (giveCode senders known R out .number) 0 ≡ false = ap (λ (c : Code). eqb (c .number) 0) here ∙ n in (
               ap (λ (X : Round). giveCode senders known X out) r ∙ sym (ap (λ (x : List Frame). ledgerGiveCode senders known R x out) l),
               ap (λ (X : Round). sumsAfter senders known X out) r

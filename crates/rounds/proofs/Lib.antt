@@ -8,4 +8,3 @@ pub mod RelayLedger
 pub mod RelaySums
 pub mod RoundLaws
 pub mod Runs
-pub mod Totals

@@ -13,10 +13,11 @@ use borrow.Author.Tests.{not-false, eq-eqb, ne-eqb, eqb-true, lt-ltb}
 use Rattle.refusals.specs.declared.Code.{Code}
 use Rattle.refusals.specs.Codes.{code, accepted, isAccepted, firstOf, ifAccepted}
 use Rattle.refusals.proofs.CodeLaws.{none-holds}
-use Rattle.refusals.proofs.Orders.{rest-decides, first-decides}
-use Rattle.arithmetic.specs.Primes.{allBelow}
-use Rattle.arithmetic.proofs.Searches.{T→true, true→T, T-and}
-use Rattle.arithmetic.proofs.PrimeLaws.{prime-pos}
+use Rattle.refusals.proofs.Orders.{rest-decides, first-decides, number-accepts}
+use Rattle.residues.specs.Primes.{allBelow}
+use Rattle.lists.proofs.Searches.{T→true, true→T, T-and}
+use Rattle.lists.proofs.ListLaws.{length-zeros}
+use Rattle.residues.proofs.PrimeLaws.{prime-pos}
 use Rattle.rounds.specs.declared.Held.{Held}
 use Rattle.rounds.specs.declared.Round.{Round}
 use Rattle.rounds.specs.declared.RelayRound.{RelayRound}
@@ -27,10 +28,10 @@ use Rattle.rounds.specs.Relays.{relayRound, heldOf, heldAs, nothing, rel
 use Rattle.rounds.specs.Relays.{Event, heard, moves, asks, told, nextOf, relayAnswers, relayRun}
 use Rattle.rounds.specs.Relays.{Log, log, heldFor, baseOf, roundAt, relayAt, isReported, allReported, logChecks, logCode, logTold, logNext, logAnswers, logAfter, logOf}
 use Rattle.rounds.proofs.CheckLaws.{Passed, ready}
-use Rattle.rounds.proofs.LedgerLaws.{Sound, sound-none, sound-more, full-same, own-same, after-none, after-twice, after-sums, number-zero}
+use Rattle.rounds.proofs.LedgerLaws.{Sound, sound-none, sound-more, full-same, own-same, after-none, after-twice, after-sums}
 use Rattle.rounds.proofs.RelaySteps.{next-number, own-decides}
 use Rattle.rounds.proofs.StepLaws.{or-none}
-use Rattle.rounds.proofs.Zeros.{length-zeros, zeros-low, zeros-high}
+use Rattle.rounds.proofs.Zeros.{zeros-low, zeros-high}
 
 -- ---- the frames of one round, with one frame more
 
@@ -300,7 +301,7 @@ module _ (R : RelayRound) (good : accepted ≡ firstOf (relayChecks R)) where
         go : (t : Bool) → isAccepted (logCode R l (heard f)) ≡ t → (relayNext (relayAt R l) f ≡ relayAt R (logNext R l (heard f))) × Steady R (logNext R l (heard f))
         go true n =
             let is : logNext R l (heard f) ≡ next = ap (λ (t : Bool). cond t next l) n in
-            let noted = noted-known R l f (number-zero (relayChecks R ++ logChecks R l (heard f)) tt n) in (
+            let noted = noted-known R l f (number-accepts (relayChecks R ++ logChecks R l (heard f)) tt n) in (
               first ∙ ap (λ (t : Bool). cond t (relayCounted (relayAt R l) f) (relayAt R l)) n ∙ counted-at f noted ∙ ap (relayAt R) (sym is),
               subst (Steady R) (sym is) (counted-steady f noted),
             )
@@ -419,7 +420,7 @@ relay-ledger R here there events = go (isAccepted (firstOf (relayChecks R))) ref
         → (relayAnswers R events ≡ logAnswers R (log (R .round .number) []) events)
         × (relayRun R events ≡ ifAccepted (firstOf (relayChecks R)) (relayAt R (logOf R events)) R)
     go true n =
-        let (a, x, s) = good-events R (number-zero (relayChecks R) tt n) here there events in
+        let (a, x, s) = good-events R (number-accepts (relayChecks R) tt n) here there events in
         (a, x ∙ sym (ap (λ (t : Bool). cond t (relayAt R (logOf R events)) R) n))
     go false n =
         let (a, x) = idle R n (log (R .round .number) []) events in

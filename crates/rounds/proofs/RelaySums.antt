@@ -11,11 +11,11 @@ use lib.Pow.{pow-pos}
 use borrow.Author.Tests.{not-false, eq-eqb, lt-ltb}
 use Rattle.refusals.specs.Codes.{code, accepted, isAccepted, firstOf, ifAccepted}
 use Rattle.refusals.proofs.CodeLaws.{none-holds, accepted-takes}
-use Rattle.refusals.proofs.Orders.{rest-decides}
-use Rattle.arithmetic.proofs.PrimeLaws.{prime-pos}
-use Rattle.matrices.specs.Linear.{at}
-use Rattle.secrecy.specs.Lists.{tab}
-use Rattle.secrecy.specs.Counts.{sumTo}
+use Rattle.refusals.proofs.Orders.{rest-decides, number-accepts}
+use Rattle.residues.proofs.PrimeLaws.{prime-pos}
+use Rattle.lists.specs.Lists.{at, tab}
+use Rattle.lists.specs.Sums.{sumTo}
+use Rattle.lists.proofs.ListLaws.{length-zeros}
 use Rattle.rounds.specs.declared.Round.{Round}
 use Rattle.rounds.specs.declared.RelayRound.{RelayRound}
 use Rattle.rounds.specs.Ledger.{Frame, named, countedAt, framesOf, everyone, Heard}
@@ -25,10 +25,9 @@ use Rattle.rounds.specs.Relays.{relayRound, heldOf, heldAs, nothing, rel
 use Rattle.rounds.specs.Relays.{Event, heard, moves, asks, relayAnswers, relayRun}
 use Rattle.rounds.specs.Relays.{Log, log, baseOf, relayAt, logChecks, logCode, logNext, logAnswers, logAfter, logOf}
 use Rattle.rounds.proofs.CheckLaws.{opening-known}
-use Rattle.rounds.proofs.LedgerLaws.{number-zero}
 use Rattle.rounds.proofs.RelayLedger.{frames-own, frames-other, Noted, noted-known, good-events, log-give}
 use Rattle.rounds.proofs.RoundLaws.{Tidy, tidy-none, tidy-more, heard-named, full-named, counted-block, heard-block, turn-given}
-use Rattle.rounds.proofs.Zeros.{length-zeros, zeros-fit}
+use Rattle.rounds.proofs.Zeros.{zeros-fit}
 
 module _ (clusters size q L cluster number : ℕ) (pass : accepted ≡ firstOf (openChecks clusters size q L (oneOf clusters cluster))) where
   abbrev pub R : RelayRound
@@ -71,7 +70,7 @@ module _ (clusters size q L cluster number : ℕ) (pass : accepted ≡ firstOf (
       heard-step f true e n = go (ℕ-discrete (f .number) n)
         where
           noted : Noted R l f
-          noted = noted-known R l f (number-zero (relayChecks R ++ logChecks R l (heard f)) tt e)
+          noted = noted-known R l f (number-accepts (relayChecks R ++ logChecks R l (heard f)) tt e)
 
           new : named (framesOf (f .number) (l .counted)) (f .sender) ≡ false
           new =

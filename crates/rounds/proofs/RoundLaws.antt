@@ -15,14 +15,13 @@ use lib.Seq.{getD-take, length-take-le}
 use borrow.Author.Tests.{not-false, eq-eqb, ne-eqb, lt-ltb}
 use Rattle.refusals.specs.Codes.{code, accepted, firstOf}
 use Rattle.refusals.proofs.CodeLaws.{none-holds, accepted-takes}
-use Rattle.refusals.proofs.Orders.{rest-decides}
-use Rattle.arithmetic.proofs.Searches.{T→true, true→T, all-at}
-use Rattle.arithmetic.proofs.PrimeLaws.{prime-pos}
-use Rattle.matrices.specs.Linear.{at, All, zeros}
-use Rattle.secrecy.specs.Lists.{tab}
-use Rattle.secrecy.specs.Counts.{sumTo}
-use Rattle.secrecy.proofs.Sums.{sum-cong, sum-zero}
-use Rattle.secrecy.proofs.ListLaws.{at-tab, tab-at, tab-cong, length-tab}
+use Rattle.refusals.proofs.Orders.{rest-decides, number-accepts}
+use Rattle.lists.proofs.Searches.{T→true, true→T, all-at}
+use Rattle.residues.proofs.PrimeLaws.{prime-pos}
+use Rattle.lists.specs.Lists.{at, All, zeros, tab}
+use Rattle.lists.specs.Sums.{sumTo}
+use Rattle.lists.proofs.Sums.{sum-cong, sum-zero}
+use Rattle.lists.proofs.ListLaws.{at-tab, tab-at, tab-cong, length-tab, el-zeros, length-zeros}
 use Rattle.rounds.specs.declared.Round.{Round}
 use Rattle.rounds.specs.Ledger.{Frame, named, countedAt, everyone, Carries, Heard}
 use Rattle.rounds.specs.Machine.{Opening}
@@ -30,8 +29,8 @@ use Rattle.rounds.specs.Rounds.{openChecks, opened, after, isFull, state
 use Rattle.rounds.proofs.CheckLaws.{opening-known, Passed, frame-known}
 use Rattle.rounds.proofs.ReportedLaws.{no-bits}
 use Rattle.rounds.proofs.StepLaws.{all-cong, or-none}
-use Rattle.rounds.proofs.LedgerLaws.{named-more, counted-more, number-zero, good-run, ledger-give}
-use Rattle.rounds.proofs.Zeros.{zeros-at, length-zeros, zeros-fit}
+use Rattle.rounds.proofs.LedgerLaws.{named-more, counted-more, good-run, ledger-give}
+use Rattle.rounds.proofs.Zeros.{zeros-fit}
 
 -- ---- sums of those who are named
 
@@ -124,7 +123,7 @@ module _ (clusters size q L number : ℕ) where
       (getD-take L S k 0 h
       ∙ at-tab 64 entry k (omega arith)
       ∙ ap (λ (t : Bool). cond t ((at (zeros 64) k + countedAt ledger k) % q) 0) (lt-ltb k L h)
-      ∙ ap (λ (z : ℕ). (z + countedAt ledger k) % q) (zeros-at 64 k)
+      ∙ ap (λ (z : ℕ). (z + countedAt ledger k) % q) (el-zeros 64 k)
       ∙ ap (λ (z : ℕ). z % q) (zero-add (countedAt ledger k)))))
     where
       entry : ℕ → ℕ
@@ -175,7 +174,7 @@ module _ (senders : ℕ) (known : Bool) (clusters size q L number : ℕ) (pass :
     where
       step : (t : Bool) → eqb (firstOf (frameChecks senders known R ledger f) .number) 0 ≡ t → Tidy senders (noted senders known R ledger f)
       step true n =
-          let p : Passed senders R ledger f = frame-known senders known R ledger f (number-zero (frameChecks senders known R ledger f) tt n) in
+          let p : Passed senders R ledger f = frame-known senders known R ledger f (number-accepts (frameChecks senders known R ledger f) tt n) in
           subst (Tidy senders) (sym (ap (λ (t : Bool). cond t (ledger ++ (f ∷ [])) ledger) n))
           (tidy-more senders ledger f tidy (p .sender-some) (p .sender-few) (sym (heard-named clusters size q L number ledger (f .sender)) ∙ p .new))
       step false n = subst (Tidy senders) (sym (ap (λ (t : Bool). cond t (ledger ++ (f ∷ [])) ledger) n)) tidy

@@ -7,8 +7,8 @@ use lib.Dec.{ltb, eqb}
 use lib.ListN.{length, take}
 use Rattle.refusals.specs.declared.Code.{Code}
 use Rattle.refusals.specs.Codes.{code, firstOf, ifAccepted}
-use Rattle.arithmetic.specs.Primes.{isPrime, allBelow}
-use Rattle.matrices.specs.Linear.{zeros}
+use Rattle.residues.specs.Primes.{isPrime, allBelow}
+use Rattle.lists.specs.Lists.{zeros}
 use Rattle.plans.specs.Plans.{countsFit, lengthFits}
 use Rattle.rounds.specs.declared.Held.{Held}
 use Rattle.rounds.specs.declared.Round.{Round}

@@ -9,15 +9,13 @@ use lib.Dec.{leb, ltb, eqb}
 use lib.ListN.{length, take, drop}
 use Rattle.refusals.specs.declared.Code.{Code}
 use Rattle.refusals.specs.Codes.{code, firstOf, ifAccepted}
-use Rattle.arithmetic.specs.Search.{allTo}
-use Rattle.arithmetic.specs.Bits.{hasBit}
-use Rattle.arithmetic.specs.Primes.{isPrime, allBelow}
-use Rattle.matrices.specs.Linear.{at, zeros}
-use Rattle.secrecy.specs.Lists.{tab}
-use Rattle.plans.specs.Plans.{countsFit}
+use Rattle.lists.specs.Search.{allTo}
+use Rattle.lists.specs.Bits.{hasBit}
+use Rattle.residues.specs.Primes.{isPrime, allBelow}
+use Rattle.lists.specs.Lists.{at, zeros, tab}
+use Rattle.plans.specs.Plans.{countsFit, lengthFits}
 use Rattle.rounds.specs.declared.Round.{Round}
 use Rattle.rounds.specs.declared.ServerRound.{ServerRound}
-use Rattle.plans.specs.Plans.{lengthFits}
 use Rattle.rounds.specs.Ledger.{Frame, named, bitsOf, countedAt}
 
 -- is this number one of 1 to n?

@@ -9,16 +9,16 @@ use native.Mathlib.Omega.{arith}
 use lib.ListN.{List·getD-eq-default}
 use lib.Dec.{T, T-not, not-T, ltb, ltb→lt, lt→ltb}
 use lib.Arith.{digits-lt, digits-div}
-use Rattle.arithmetic.specs.Search.{anyTo, allTo}
-use Rattle.arithmetic.proofs.Searches.{T-and, and-T, T-decide, any-found, any-at, all-at, not-all}
-use Rattle.arithmetic.proofs.Congruence.{Cong, of-eq, c-trans, cong-zero}
-use Rattle.matrices.specs.Linear.{at}
+use Rattle.lists.specs.Search.{anyTo, allTo}
+use Rattle.lists.proofs.Searches.{T-and, and-T, T-decide, any-found, any-at, all-at, not-all}
+use Rattle.residues.proofs.Congruence.{Cong, of-eq, c-trans, cong-zero}
+use Rattle.lists.specs.Lists.{at}
 use Rattle.matrices.proofs.Notions.{dotN}
 use Rattle.matrices.proofs.Vectors.{dot-reduce}
-use Rattle.secrecy.specs.Counts.{sumTo}
+use Rattle.lists.specs.Sums.{sumTo}
 use Rattle.secrecy.specs.Model.{Pool, users, inCoalition, ZeroSum, columnSum}
-use Rattle.secrecy.proofs.Sums.{sum-cong, sum-zero}
-use Rattle.secrecy.proofs.ListLaws.{at-tab, length-tab}
+use Rattle.lists.proofs.Sums.{sum-cong, sum-zero}
+use Rattle.lists.proofs.ListLaws.{at-tab, length-tab}
 use Rattle.secrecy.proofs.Units.{unit, addTo, dot-addTo, dot-units-one, dot-units-none, el-addTo, dot-null}
 use Rattle.secrecy.proofs.RankCondition.{row, sumRow, opened, tested}
 use Rattle.secrecy.proofs.PoolForms.{sumForm}

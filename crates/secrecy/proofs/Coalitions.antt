@@ -4,11 +4,12 @@ use mathlib.Core.Path.{_≡_, sym, ap, _∙_, subst}
 use mathlib.Core.List.{List}
 use native.Mathlib.Nat.{zero-mod}
 use lib.Dec.{T}
-use Rattle.matrices.specs.Linear.{All, zeros}
+use Rattle.lists.specs.Lists.{All, zeros}
 use Rattle.matrices.proofs.Notions.{dot}
-use Rattle.matrices.proofs.Vectors.{all-append, all-right, dot-zeros}
+use Rattle.lists.proofs.Members.{all-append, all-right}
+use Rattle.matrices.proofs.Vectors.{dot-zeros}
 use Rattle.secrecy.specs.Model.{Pool, users, inCoalition}
-use Rattle.secrecy.proofs.ListLaws.{all-picked, picked-all}
+use Rattle.lists.proofs.ListLaws.{all-picked, picked-all}
 use Rattle.secrecy.proofs.Units.{unit, dot-unit, at-unit-other}
 use Rattle.secrecy.proofs.Forms.{Unseen, MakesUp}
 use Rattle.secrecy.proofs.RankCondition.{row, coalitionRows}

@@ -9,13 +9,13 @@ use native.Mathlib.Nat.{suc-ne-zero, lt-of-lt-of-le}
 use native.Mathlib.Omega.{arith}
 use lib.ListN.{length}
 use lib.Dec.{T}
-use Rattle.arithmetic.proofs.Searches.{T→true, not-T→false, T-decide}
+use Rattle.lists.proofs.Searches.{T→true, not-T→false, T-decide}
 use Rattle.matrices.specs.Linear.{Vector}
 use Rattle.matrices.specs.Rank.{anyList, sameList}
 use Rattle.matrices.proofs.Vectors.{vector-nil, vector-cons, vector-head, vector-tail}
 use Rattle.matrices.proofs.Spans.{any-list-found, any-list-at, same→eq, eq→same}
 use Rattle.secrecy.specs.Counts.{count}
-use Rattle.secrecy.proofs.Sums.{sum-cong, sum-zero, sum-le, sum-shift}
+use Rattle.lists.proofs.Sums.{sum-cong, sum-zero, sum-le, sum-shift}
 use Rattle.secrecy.proofs.Units.{shift}
 
 -- ---- the count

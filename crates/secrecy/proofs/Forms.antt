@@ -7,12 +7,13 @@ use native.Mathlib.Nat.{mod-lt, lt-suc-self}
 use native.Mathlib.Omega.{arith}
 use lib.ListN.{length}
 use lib.Dec.{T}
-use Rattle.matrices.specs.Linear.{at, All, Vector}
+use Rattle.lists.specs.Lists.{at, All, tab, joinTo, picked}
+use Rattle.matrices.specs.Linear.{Vector}
 use Rattle.matrices.proofs.Notions.{dotN, dot}
 use Rattle.matrices.proofs.Vectors.{vector-nil}
-use Rattle.secrecy.specs.Lists.{tab, joinTo, picked}
 use Rattle.secrecy.specs.Leaks.{Symbols}
-use Rattle.secrecy.proofs.ListLaws.{tab-cong, tab-vector, vector-append}
+use Rattle.lists.proofs.ListLaws.{tab-cong}
+use Rattle.matrices.proofs.MadeVectors.{tab-vector, vector-append}
 
 -- coefficients for the readings and for the source symbols of a position
 pub record Form : Type 0 where

@@ -8,14 +8,16 @@ use native.Mathlib.Decide.{decLt}
 use native.Mathlib.Omega.{arith}
 use lib.ListN.{length}
 use lib.Arith.{digits-lt, digits-div, digits-mod, lt-one}
-use Rattle.arithmetic.proofs.Congruence.{Cong, to-mod, of-eq, of-mod, c-sym, c-trans, zero-cong, minus-number, back-number}
-use Rattle.matrices.specs.Linear.{at, All, Vector, scale, zeros, reduce}
+use Rattle.residues.proofs.Congruence.{Cong, to-mod, of-eq, of-mod, c-sym, c-trans, zero-cong, minus-number, back-number}
+use Rattle.lists.specs.Lists.{at, All, zeros, tab}
+use Rattle.matrices.specs.Linear.{Vector, scale, reduce}
 use Rattle.matrices.proofs.Notions.{dotN, dot}
 use Rattle.matrices.specs.Rank.{sameList}
-use Rattle.matrices.proofs.Vectors.{all-map, dot-scaled, dot-zeroed, dot-reduced, length-scale, length-zeros, vector-reduce, vector-zeros}
-use Rattle.secrecy.specs.Lists.{tab}
+use Rattle.lists.proofs.Members.{all-map}
+use Rattle.matrices.proofs.Vectors.{dot-scaled, dot-zeroed, dot-reduced, length-scale, vector-reduce, vector-zeros}
+use Rattle.lists.proofs.ListLaws.{length-zeros, at-tab, length-tab, tab-cong, tab-at}
 use Rattle.secrecy.specs.Leaks.{number, Leak, Symbols}
-use Rattle.secrecy.proofs.ListLaws.{at-tab, length-tab, tab-cong, tab-at, tab-vector, entry-below}
+use Rattle.matrices.proofs.MadeVectors.{tab-vector, entry-below}
 use Rattle.secrecy.proofs.Units.{shift, minus, el-shift, tab-shift, dot-shift, dot-minus, minus-vector}
 use Rattle.secrecy.proofs.CountLaws.{same-counts, counts-differ}
 use Rattle.secrecy.proofs.Forms.{Form, readingsAt, sourceAt, value, viewOf, AgreeOn, Unseen, MakesUp, Mask, Hidden, ByForms}

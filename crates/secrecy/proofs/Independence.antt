@@ -8,17 +8,18 @@ use mathlib.Core.List.{List, [], _∷_, _++_, append-nil, append-assoc}
 use native.Mathlib.Nat.{mod-lt, lt-suc-self}
 use native.Mathlib.Omega.{arith}
 use lib.Dec.{T}
-use Rattle.arithmetic.specs.Primes.{Prime}
-use Rattle.arithmetic.proofs.PrimeLaws.{prime-pos}
-use Rattle.arithmetic.proofs.Searches.{T-decide}
-use Rattle.matrices.specs.Linear.{All, Vector}
+use Rattle.residues.specs.Primes.{Prime}
+use Rattle.residues.proofs.PrimeLaws.{prime-pos}
+use Rattle.lists.proofs.Searches.{T-decide}
+use Rattle.lists.specs.Lists.{All, joinTo, picked}
+use Rattle.matrices.specs.Linear.{Vector}
 use Rattle.matrices.proofs.Notions.{dot, InSpan, Independent, Solution}
 use Rattle.matrices.specs.Rank.{inSpan}
-use Rattle.matrices.proofs.Vectors.{all-append}
+use Rattle.lists.proofs.Members.{all-append}
 use Rattle.matrices.proofs.Spans.{in-span-iff}
 use Rattle.matrices.proofs.Solvability.{solvable-iff}
-use Rattle.secrecy.specs.Lists.{joinTo, picked}
-use Rattle.secrecy.proofs.ListLaws.{all-picked, length-picked, vector-picked, map-picked, picked-inj}
+use Rattle.lists.proofs.ListLaws.{all-picked, length-picked, map-picked, picked-inj}
+use Rattle.matrices.proofs.MadeVectors.{vector-picked}
 
 -- one row more at the end
 independent-snoc : (q n : ℕ) (G C : List (List ℕ)) (c : List ℕ) → Independent q n G C → ¬ (InSpan q n (G ++ C) c) → Independent q n G (C ++ (c ∷ []))

@@ -7,15 +7,15 @@ use mathlib.Core.List.{List, _∷_}
 use native.Mathlib.Decide.{ℕ-discrete}
 use native.Mathlib.Omega.{arith}
 use lib.Dec.{T, T-not, not-T, eqb, eqb→eq, eqb-refl}
-use Rattle.arithmetic.specs.Search.{allTo}
-use Rattle.arithmetic.proofs.Searches.{T-and, and-T, any-found, any-at, all-at, all-made}
+use Rattle.lists.specs.Search.{allTo}
+use Rattle.lists.proofs.Searches.{T-and, and-T, any-found, any-at, all-at, all-made}
 use Rattle.matrices.specs.Linear.{Vector}
 use Rattle.matrices.specs.Rank.{anyList, sameList}
 use Rattle.matrices.proofs.Spans.{any-list-found, any-list-at, same→eq}
-use Rattle.secrecy.specs.Counts.{howMany}
+use Rattle.lists.specs.Sums.{howMany}
 use Rattle.secrecy.specs.Model.{Pool, users, inCoalition, inCluster, reading, total, setView, serverView, view}
 use Rattle.secrecy.specs.Leaks.{number, membersAgree, totalsAgree, agree, places, leaksAt, leaks, Symbols, Agree, ServerAgree, Agrees, PairLeak}
-use Rattle.secrecy.proofs.ListLaws.{many-all}
+use Rattle.lists.proofs.ListLaws.{many-all}
 use Rattle.secrecy.proofs.CountLaws.{count-found}
 use Rattle.secrecy.proofs.Forms.{see-vector}
 use Rattle.secrecy.proofs.PoolForms.{seenForms, upForm, sumForm, length-seen, units, ones, set-forms, server-forms}

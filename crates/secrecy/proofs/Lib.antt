@@ -1,5 +1,3 @@
-pub mod Sums
-pub mod ListLaws
 pub mod Units
 pub mod CountLaws
 pub mod Forms
@@ -15,7 +13,3 @@ mod Independence
 mod Coalitions
 pub mod Clusters
 mod LeakTest
-pub mod BitLaws
-pub mod Joins
-pub mod RunningSum
-pub mod Filling

@@ -7,18 +7,18 @@ use mathlib.Core.Logic.{_⊎_, inl, inr, ⊎-elim}
 use mathlib.Core.List.{List, [], _∷_, _++_}
 use native.Mathlib.Omega.{arith}
 use lib.Dec.{T}
-use Rattle.arithmetic.specs.Primes.{Prime}
-use Rattle.arithmetic.proofs.PrimeLaws.{prime-pos}
-use Rattle.arithmetic.proofs.Congruence.{Cong, of-mod, c-sym, c-trans, zero-not-one}
-use Rattle.matrices.specs.Linear.{All, Vector, zeros}
+use Rattle.residues.specs.Primes.{Prime}
+use Rattle.residues.proofs.PrimeLaws.{prime-pos}
+use Rattle.residues.proofs.Congruence.{Cong, of-mod, c-sym, c-trans, zero-not-one}
+use Rattle.lists.specs.Lists.{All, zeros, picked}
+use Rattle.matrices.specs.Linear.{Vector}
 use Rattle.matrices.proofs.Notions.{dotN, dot, InSpan, Independent}
-use Rattle.matrices.proofs.Vectors.{all-append, all-left, all-right}
+use Rattle.lists.proofs.Members.{all-append, all-left, all-right}
 use Rattle.matrices.proofs.Spans.{span-dot}
 use Rattle.matrices.proofs.Duality.{orthogonal-cong}
-use Rattle.secrecy.specs.Lists.{picked}
 use Rattle.secrecy.specs.Model.{Pool, users}
 use Rattle.secrecy.specs.Leaks.{Leak, Symbols}
-use Rattle.secrecy.proofs.ListLaws.{all-picked, picked-all}
+use Rattle.lists.proofs.ListLaws.{all-picked, picked-all}
 use Rattle.secrecy.proofs.Forms.{Form, Unseen, MakesUp, Mask, Hidden, ByForms}
 use Rattle.secrecy.proofs.Hiding.{hidden-keeps, unmasked-leaks}
 use Rattle.secrecy.proofs.Independence.{Solved, independent-or-dependent, solved}

@@ -8,16 +8,17 @@ use native.Mathlib.Omega.{arith}
 use lib.ListN.{length, length-append}
 use lib.Dec.{T}
 use lib.Arith.{digits-lt}
-use Rattle.arithmetic.proofs.Congruence.{to-mod, of-eq, of-rem, c-sym, c-trans, c-add}
-use Rattle.matrices.specs.Linear.{at, zeros}
+use Rattle.residues.proofs.Congruence.{to-mod, of-eq, of-rem, c-sym, c-trans, c-add}
+use Rattle.lists.specs.Lists.{at, zeros, tab, picked}
 use Rattle.matrices.proofs.Notions.{dotN, dot}
 use Rattle.matrices.proofs.Vectors.{dot-zeros, dot-reduce}
-use Rattle.secrecy.specs.Lists.{tab, picked}
-use Rattle.secrecy.specs.Counts.{howMany}
+use Rattle.lists.specs.Sums.{howMany}
 use Rattle.secrecy.specs.Model.{Pool, users, inCoalition, reading, key, upload, relaySum, total, blocks, known, setView, serverView}
 use Rattle.secrecy.specs.Leaks.{Symbols, Agree, ServerAgree}
-use Rattle.secrecy.proofs.Sums.{sum-cong, sum-add, sum-c}
-use Rattle.secrecy.proofs.ListLaws.{at-tab, dot-tab, all-picked, picked-all, length-picked}
+use Rattle.lists.proofs.Sums.{sum-cong, sum-add}
+use Rattle.residues.proofs.CongruentSums.{sum-c}
+use Rattle.lists.proofs.ListLaws.{at-tab, all-picked, picked-all, length-picked}
+use Rattle.matrices.proofs.MadeVectors.{dot-tab}
 use Rattle.secrecy.proofs.Units.{unit, addTo, dot-unit, dot-addTo}
 use Rattle.secrecy.proofs.Forms.{Form, readingsAt, sourceAt, value, viewOf, AgreeOn, ByForms, view-append, view-picked}
 use Rattle.secrecy.proofs.RankCondition.{row, sumRow}

@@ -3,14 +3,15 @@ use Prim.Native.Nat.{ℕ, zero, suc, _+_, _*_}
 use mathlib.Core.Bool.{Bool, not, _&&_}
 use mathlib.Core.List.{List, [], _∷_}
 use lib.Dec.{ltb}
-use Rattle.arithmetic.specs.Search.{anyTo, allTo}
-use Rattle.arithmetic.specs.Primes.{Prime}
-use Rattle.arithmetic.proofs.PrimeLaws.{prime-pos}
-use Rattle.matrices.specs.Linear.{at, All, Vector, reduce}
+use Rattle.lists.specs.Search.{anyTo, allTo}
+use Rattle.residues.specs.Primes.{Prime}
+use Rattle.residues.proofs.PrimeLaws.{prime-pos}
+use Rattle.lists.specs.Lists.{at, All, tab, picked}
+use Rattle.matrices.specs.Linear.{Vector, reduce}
 use Rattle.matrices.proofs.Vectors.{vector-reduce}
-use Rattle.secrecy.specs.Lists.{tab, picked}
 use Rattle.secrecy.specs.Model.{Pool, users, inCoalition, inCluster}
-use Rattle.secrecy.proofs.ListLaws.{tab-vector, entry-below, all-picked}
+use Rattle.matrices.proofs.MadeVectors.{tab-vector, entry-below}
+use Rattle.lists.proofs.ListLaws.{all-picked}
 use Rattle.secrecy.proofs.Units.{addTo, length-addTo}
 
 module _ (P : Pool) where

@@ -4,8 +4,10 @@ use mathlib.Core.Path.{_≡_, refl, subst}
 use mathlib.Core.Logic.{_≢_, _⊎_, inl, inr, ⊎-elim}
 use mathlib.Core.List.{List}
 use native.Mathlib.Omega.{arith}
-use Rattle.matrices.specs.Linear.{at, Vector, zeros}
-use Rattle.matrices.proofs.Vectors.{el-zeros, vector-zeros}
+use Rattle.lists.specs.Lists.{at, zeros}
+use Rattle.matrices.specs.Linear.{Vector}
+use Rattle.lists.proofs.ListLaws.{el-zeros}
+use Rattle.matrices.proofs.Vectors.{vector-zeros}
 use Rattle.secrecy.specs.Leaks.{Symbols}
 use Rattle.secrecy.proofs.Units.{unit, minus, unit-vector, unit-cases, units-vector, units-cases}
 

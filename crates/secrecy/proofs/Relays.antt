@@ -7,12 +7,12 @@ use mathlib.Core.Logic.{_⊎_}
 use mathlib.Core.List.{List, [], _∷_}
 use native.Mathlib.Omega.{arith}
 use lib.Dec.{T, T-not, not-T}
-use Rattle.arithmetic.specs.Primes.{Prime}
-use Rattle.arithmetic.proofs.Searches.{T-and, and-T, T-decide}
-use Rattle.arithmetic.proofs.Congruence.{of-eq}
-use Rattle.matrices.specs.Linear.{All, Vector}
+use Rattle.residues.specs.Primes.{Prime}
+use Rattle.lists.proofs.Searches.{T-and, and-T, T-decide}
+use Rattle.residues.proofs.Congruence.{of-eq}
+use Rattle.lists.specs.Lists.{All, picked}
+use Rattle.matrices.specs.Linear.{Vector}
 use Rattle.matrices.proofs.Notions.{dot, Independent}
-use Rattle.secrecy.specs.Lists.{picked}
 use Rattle.secrecy.specs.Model.{Pool, users, inCoalition, setView}
 use Rattle.secrecy.specs.Leaks.{Leak, Symbols, Agree}
 use Rattle.secrecy.proofs.Units.{unit, dot-unit, at-unit-same, at-unit-other}

@@ -9,17 +9,18 @@ use native.Mathlib.Decide.{decLt}
 use native.Mathlib.Omega.{arith}
 use lib.Dec.{T}
 use lib.Arith.{digits-lt}
-use Rattle.arithmetic.specs.Primes.{Prime}
-use Rattle.arithmetic.proofs.Searches.{T-decide}
-use Rattle.arithmetic.proofs.Congruence.{Cong, to-mod, of-eq, of-mod, c-refl, c-sym, c-trans, c-add, c-mul-left, cong-zero, zero-cong, minus-number}
-use Rattle.matrices.specs.Linear.{All, Vector}
+use Rattle.residues.specs.Primes.{Prime}
+use Rattle.lists.proofs.Searches.{T-decide}
+use Rattle.residues.proofs.Congruence.{Cong, to-mod, of-eq, of-mod, c-refl, c-sym, c-trans, c-add, c-mul-left, cong-zero, zero-cong, minus-number}
+use Rattle.lists.specs.Lists.{All, picked}
+use Rattle.matrices.specs.Linear.{Vector}
 use Rattle.matrices.proofs.Notions.{dotN, dot, Independent}
-use Rattle.matrices.proofs.Vectors.{all-both}
-use Rattle.secrecy.specs.Lists.{picked}
-use Rattle.secrecy.specs.Counts.{sumTo}
+use Rattle.lists.proofs.Members.{all-both}
+use Rattle.lists.specs.Sums.{sumTo}
 use Rattle.secrecy.specs.Model.{Pool, users, serverView, ZeroSum}
 use Rattle.secrecy.specs.Leaks.{Leak, Symbols, ServerAgree}
-use Rattle.secrecy.proofs.Sums.{sum-cong, sum-grid, sum-c, sum-left}
+use Rattle.lists.proofs.Sums.{sum-cong, sum-grid}
+use Rattle.residues.proofs.CongruentSums.{sum-c, sum-left}
 use Rattle.secrecy.proofs.Units.{unit, minus, dot-minus, dot-minus-is, dot-addTo, dot-units-one}
 use Rattle.secrecy.proofs.Forms.{Unseen, MakesUp}
 use Rattle.secrecy.proofs.Readings.{Enough}

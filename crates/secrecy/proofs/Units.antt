@@ -8,14 +8,15 @@ use native.Mathlib.Decide.{ℕ-discrete}
 use native.Mathlib.Omega.{arith}
 use lib.ListN.{length, set, length-set}
 use lib.Seq.{getD-set-same, getD-set-other}
-use Rattle.arithmetic.proofs.Congruence.{Cong, of-eq, c-refl, c-trans, c-add, c-mul-right}
-use Rattle.matrices.specs.Linear.{at, Vector, add, scale, zeros, reduce}
+use Rattle.residues.proofs.Congruence.{Cong, of-eq, c-refl, c-trans, c-add, c-mul-right}
+use Rattle.lists.specs.Lists.{at, zeros, tab}
+use Rattle.matrices.specs.Linear.{Vector, add, scale, reduce}
 use Rattle.matrices.proofs.Notions.{dotN}
-use Rattle.matrices.proofs.Vectors.{dot-add, dot-added, dot-zeros, dot-right, dot-reduced, el-add, el-zeros, el-left, el-reduce}
-use Rattle.matrices.proofs.Vectors.{length-add, length-scale, length-zeros, vector-reduce}
-use Rattle.secrecy.specs.Lists.{tab}
-use Rattle.secrecy.specs.Counts.{sumTo}
-use Rattle.secrecy.proofs.Sums.{sum-cong, sum-zero, sum-one}
+use Rattle.matrices.proofs.Vectors.{dot-add, dot-added, dot-zeros, dot-right, dot-reduced, el-add, el-left, el-reduce}
+use Rattle.lists.proofs.ListLaws.{el-zeros, length-zeros}
+use Rattle.matrices.proofs.Vectors.{length-add, length-scale, vector-reduce}
+use Rattle.lists.specs.Sums.{sumTo}
+use Rattle.lists.proofs.Sums.{sum-cong, sum-zero, sum-one}
 
 -- m numbers, a 1 at index i and 0 elsewhere
 abbrev pub unit : ℕ → ℕ → List ℕ

@@ -6,10 +6,11 @@ use mathlib.Core.Logic.{_≢_}
 use mathlib.Core.Bool.{Bool, not, _&&_, _||_}
 use mathlib.Core.List.{List}
 use lib.Dec.{T, eqb}
-use Rattle.arithmetic.specs.Search.{anyTo, allTo}
+use Rattle.lists.specs.Search.{anyTo, allTo}
 use Rattle.matrices.specs.Linear.{Vector}
 use Rattle.matrices.specs.Rank.{anyList, sameList}
-use Rattle.secrecy.specs.Counts.{count, howMany}
+use Rattle.secrecy.specs.Counts.{count}
+use Rattle.lists.specs.Sums.{howMany}
 use Rattle.secrecy.specs.Model.{Pool, users, inCoalition, inCluster, reading, total, view}
 
 -- among all source keys of L positions, n symbols each, how many show s under the readings W

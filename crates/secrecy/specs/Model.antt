@@ -6,10 +6,9 @@ use mathlib.Core.Path.{_≡_}
 use mathlib.Core.Bool.{Bool}
 use mathlib.Core.List.{List, _++_}
 use lib.Dec.{eqb}
-use Rattle.arithmetic.specs.Bits.{hasBit}
-use Rattle.matrices.specs.Linear.{at}
-use Rattle.secrecy.specs.Lists.{tab, joinTo, picked}
-use Rattle.secrecy.specs.Counts.{sumTo}
+use Rattle.lists.specs.Bits.{hasBit}
+use Rattle.lists.specs.Lists.{at, tab, joinTo, picked}
+use Rattle.lists.specs.Sums.{sumTo}
 
 -- what the equations speak of: clusters of so many users (meters) each, a prime q, and a key table with a row of `rate` symbols for each user
 pub record Pool : Type 0 where

@@ -1,21 +1,20 @@
 -- Laws of the key stream.
-use Prim.Native.Nat.{ℕ, zero, suc, _+_, _-_, _≤_, _<_}
-use mathlib.Core.Path.{_≡_, refl, sym, ap, _∙_}
+use Prim.Native.Nat.{ℕ, _+_, _-_, _≤_, _<_}
+use mathlib.Core.Path.{_≡_, sym, ap, _∙_}
 use mathlib.Core.Bool.{Bool, true, false, cond, not}
 use mathlib.Core.List.{List, [], _∷_, _++_}
-use native.Mathlib.Nat.{zero-add, suc-add}
 use native.Mathlib.Omega.{arith}
 use lib.ListN.{length, take, drop, length-drop}
 use lib.Seq.{take-add, drop-drop, length-take-le}
 use lib.Dec.{T, ltb, eqb, eqb→eq}
 use borrow.Author.Tests.{lt-ltb, ltb-false, not-false}
-use Rattle.refusals.specs.Codes.{code, accepted, firstOf}
+use Rattle.refusals.specs.Codes.{accepted}
 use Rattle.refusals.proofs.CodeLaws.{none-holds}
-use Rattle.arithmetic.proofs.Searches.{true→T}
-use Rattle.matrices.specs.Linear.{at}
-use Rattle.secrecy.specs.Lists.{tab}
-use Rattle.secrecy.proofs.ListLaws.{at-tab, length-tab, tab-cong}
-use Rattle.matrices.proofs.Fronts.{part-at}
+use Rattle.refusals.proofs.Orders.{number-accepts}
+use Rattle.lists.proofs.Searches.{T→true, true→T}
+use Rattle.lists.specs.Lists.{at, tab}
+use Rattle.lists.proofs.ListLaws.{at-tab, length-tab, tab-cong, tab-append}
+use Rattle.lists.proofs.Fronts.{part-at}
 use Rattle.plans.specs.Plans.{lengthFits}
 use Rattle.plans.proofs.PlanBounds.{length-known}
 use Rattle.streams.specs.Streams.{drawChecks, drawCode, drawn, positionAfterAll, symbolsDrawn, placesDrawn}
@@ -43,23 +42,7 @@ drawable stream position L out e =
       enough = omega arith;
     }
 
--- a draw whose number is 0 is accepted
-number-accepts : (length room short : Bool) → (let c = firstOf ((length, code 9) ∷ (room, code 4) ∷ (short, code 13) ∷ []) in T (eqb (c .number) 0) → accepted ≡ c)
-number-accepts true room short t = absurd t
-number-accepts false true short t = absurd t
-number-accepts false false true t = absurd t
-number-accepts false false false t = refl
-
 -- ---- runs of draws
-
-tab-append : (m n : ℕ) (f : ℕ → ℕ) → tab (m + n) f ≡ tab m f ++ tab n (λ k. f (m + k))
-unfolding tab
-tab-append zero n f =
-    ap (λ (k : ℕ). tab k f) (zero-add n) ∙ tab-cong n f (λ k. f (zero + k)) (λ k _. ap f (sym (zero-add k)))
-tab-append (suc m) n f =
-    ap (λ (k : ℕ). tab k f) (suc-add m n)
-    ∙ ap (λ (l : List ℕ). f 0 ∷ l) (tab-append m n (λ k. f (suc k)))
-    ∙ ap (λ (l : List ℕ). tab (suc m) f ++ l) (tab-cong n (λ k. f (suc (m + k))) (λ k. f (suc m + k)) (λ k _. ap f (sym (suc-add m k))))
 
 module _ (stream : List ℕ) where
   -- is this draw accepted?
@@ -80,7 +63,7 @@ module _ (stream : List ℕ) where
   draws-few position [] = omega arith
   draws-few position (draw ∷ draws) =
       go (takes position draw)
-      (λ t. drawable stream position (draw .0) (draw .1) (number-accepts (not (lengthFits (draw .0))) (not (eqb (length (draw .1)) (draw .0))) (ltb (length stream - position) (draw .0)) t) .enough)
+      (λ t. drawable stream position (draw .0) (draw .1) (number-accepts (drawChecks stream position (draw .0) (draw .1)) tt (T→true _ t)) .enough)
       (λ p. draws-few p draws)
     where
       go : (b : Bool) → (T b → position + draw .0 ≤ length stream) → ((p : ℕ) → positionAfterAll stream p draws - p ≤ length stream - p)

@@ -6,7 +6,7 @@ use lib.Dec.{ltb, eqb}
 use lib.ListN.{length, take, drop}
 use Rattle.refusals.specs.declared.Code.{Code}
 use Rattle.refusals.specs.Codes.{code, firstOf, ifAccepted}
-use Rattle.secrecy.specs.Lists.{tab}
+use Rattle.lists.specs.Lists.{tab}
 use Rattle.plans.specs.Plans.{lengthFits}
 
 -- a lent buffer of exactly L symbols; L symbols after the position

@@ -6,8 +6,8 @@ use mathlib.Core.List.{List}
 use native.Mathlib.Numerals.{add-one}
 use native.Mathlib.Omega.{arith}
 use lib.ListN.{length, length-set}
-use Rattle.arithmetic.specs.Search.{allTo}
-use Rattle.arithmetic.proofs.Searches.{not-T→false, false→not-T, all-at}
+use Rattle.lists.specs.Search.{allTo}
+use Rattle.lists.proofs.Searches.{not-T→false, false→not-T, all-at}
 use Rattle.testing.specs.Numbers.{mulAddOf, howMany}
 use Rattle.testing.specs.Slices.{at, replaced, overwritten, columnOf}
 

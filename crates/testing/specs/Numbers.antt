@@ -5,7 +5,7 @@ use mathlib.Core.List.{[], _∷_}
 use lib.Bits.{bitXor}
 use lib.Dec.{eqb, ltb}
 use lib.ListN.{getD}
-use Rattle.arithmetic.specs.Field.{residue}
+use Rattle.residues.specs.Field.{residue}
 
 -- what a leaves when divided by n, and how often n is in a; 0 where n is 0
 unfoldable pub residueOf : ℕ → ℕ → ℕ

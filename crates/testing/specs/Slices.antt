@@ -4,7 +4,7 @@ use mathlib.Core.Bool.{Bool}
 use mathlib.Core.List.{List}
 use lib.Dec.{eqb, leb}
 use lib.ListN.{length, getD, set}
-use Rattle.arithmetic.specs.Search.{allTo}
+use Rattle.lists.specs.Search.{allTo}
 use Rattle.testing.specs.Numbers.{residueOf, low, mulAddOf, howMany, drawnOf}
 
 -- the number at index i, 0 past the end

@@ -11,10 +11,9 @@ use lib.ListN.{length, take, drop, length-append, length-drop}
 use lib.Seq.{length-take-le, take-at}
 use borrow.Author.Tests.{eq-eqb}
 use borrow.Rule.Slice.PartMut.{same-len-mid}
-use Rattle.secrecy.specs.Lists.{joinTo}
-use Rattle.matrices.specs.Linear.{at}
-use Rattle.secrecy.specs.Counts.{sumTo}
-use Rattle.secrecy.proofs.Sums.{sum-cong}
+use Rattle.lists.specs.Lists.{joinTo, at}
+use Rattle.lists.specs.Sums.{sumTo}
+use Rattle.lists.proofs.Sums.{sum-cong}
 use Rattle.plans.specs.declared.Plan.{Plan}
 use Rattle.plans.specs.Plans.{usersOf}
 use Rattle.vetting.specs.Walking.{clusterSum}

@@ -6,21 +6,22 @@ use native.Mathlib.Decide.{decLt}
 use native.Mathlib.Omega.{arith}
 use lib.ListN.{length, take, drop, length-append, length-drop}
 use lib.Seq.{drop-append-le, drop-append-add, take-append-le, getD-take, getD-drop}
-use Rattle.arithmetic.specs.Primes.{Prime}
-use Rattle.matrices.specs.Linear.{at, Vector}
+use Rattle.residues.specs.Primes.{Prime}
+use Rattle.lists.specs.Lists.{at, tab, joinTo}
+use Rattle.matrices.specs.Linear.{Vector}
 use Rattle.matrices.specs.Tables.{rowOf}
 use Rattle.matrices.proofs.Vectors.{el-reduce, length-reduce}
 use Rattle.matrices.proofs.Elimination.{Table}
-use Rattle.secrecy.specs.Lists.{tab, joinTo}
-use Rattle.secrecy.proofs.Sums.{sum-cong}
-use Rattle.secrecy.proofs.ListLaws.{at-tab, length-tab, tab-at}
+use Rattle.lists.proofs.Sums.{sum-cong}
+use Rattle.lists.proofs.ListLaws.{at-tab, length-tab, tab-at}
 use Rattle.secrecy.proofs.Units.{addTo, el-addTo, length-addTo}
 use Rattle.secrecy.proofs.RankCondition.{row, sumRow, row-vector, sum-row-vector}
 use Rattle.plans.specs.declared.Plan.{Plan}
-use Rattle.plans.specs.Plans.{poolOf, usersOf}
+use Rattle.plans.specs.Plans.{usersOf}
+use Rattle.vetting.specs.Pools.{poolOf}
 use Rattle.vetting.specs.Walking.{clusterSum, baseTable, rowsIn}
 use Rattle.plans.proofs.PlanBounds.{Bounds}
-use Rattle.secrecy.proofs.Joins.{length-join, join-part}
+use Rattle.lists.proofs.Joins.{length-join, join-part}
 use Rattle.vetting.proofs.GatherLaws.{row-length, room}
 
 -- ---- rows joined

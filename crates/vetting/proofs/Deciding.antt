@@ -9,13 +9,14 @@ use native.Mathlib.Omega.{arith}
 use lib.Dec.{T}
 use lib.ListN.{length}
 use Rattle.refusals.specs.Codes.{firstOf}
-use Rattle.arithmetic.specs.Primes.{Prime, allBelow}
-use Rattle.arithmetic.proofs.Searches.{T-ext, T-decide, true→T}
-use Rattle.arithmetic.proofs.PrimeLaws.{prime-pos, below-at}
-use Rattle.matrices.specs.Linear.{All, Vector}
+use Rattle.residues.specs.Primes.{Prime, allBelow}
+use Rattle.lists.proofs.Searches.{T-ext, T-decide, true→T}
+use Rattle.residues.proofs.PrimeLaws.{prime-pos, below-at}
+use Rattle.lists.specs.Lists.{All}
+use Rattle.matrices.specs.Linear.{Vector}
 use Rattle.matrices.proofs.Notions.{Independent}
 use Rattle.matrices.specs.Tables.{rowOf}
-use Rattle.matrices.proofs.Vectors.{all-map}
+use Rattle.lists.proofs.Members.{all-map}
 use Rattle.matrices.proofs.Elimination.{Table}
 use Rattle.secrecy.specs.Model.{inCoalition, inCluster, ZeroSum}
 use Rattle.secrecy.specs.Leaks.{leaks}
@@ -24,11 +25,12 @@ use Rattle.secrecy.proofs.Verdicts.{leaks-iff, pair-iff}
 use Rattle.plans.specs.declared.Plan.{Plan}
 use Rattle.vetting.specs.declared.Pair.{Pair}
 use Rattle.vetting.specs.declared.Found.the-variants.{At}
-use Rattle.plans.specs.Plans.{poolOf, usersOf, inBounds}
+use Rattle.plans.specs.Plans.{usersOf, inBounds}
+use Rattle.vetting.specs.Pools.{poolOf}
 use Rattle.vetting.specs.Walk.{pairs, InWalk}
 use Rattle.vetting.specs.Verdict.{leakCheck}
 use Rattle.vetting.specs.Walking.{baseTable, rowsIn, watchMask, hit, firstHit, walked, foundCode}
-use Rattle.secrecy.proofs.BitLaws.{bit-above}
+use Rattle.lists.proofs.BitLaws.{bit-above}
 use Rattle.plans.proofs.PlanBounds.{Bounds, bounds-known}
 use Rattle.vetting.proofs.PairLists.{pairs-in}
 use Rattle.vetting.proofs.PickedLaws.{picked-cong}

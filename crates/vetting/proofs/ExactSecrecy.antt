@@ -9,17 +9,19 @@ use lib.Dec.{T}
 use Rattle.refusals.specs.declared.Code.{Code}
 use Rattle.refusals.specs.Codes.{accepted, firstOf}
 use Rattle.refusals.proofs.CodeLaws.{numbered}
-use Rattle.arithmetic.specs.Primes.{Prime, allBelow}
-use Rattle.arithmetic.proofs.Searches.{T-decide, T→true, true→T, not-T→false}
-use Rattle.arithmetic.proofs.PrimeLaws.{prime-pos, below-at}
-use Rattle.matrices.specs.Linear.{All, Vector}
-use Rattle.matrices.proofs.Vectors.{all-map, all-right}
+use Rattle.residues.specs.Primes.{Prime, allBelow}
+use Rattle.lists.proofs.Searches.{T-decide, T→true, true→T, not-T→false}
+use Rattle.residues.proofs.PrimeLaws.{prime-pos, below-at}
+use Rattle.lists.specs.Lists.{All}
+use Rattle.matrices.specs.Linear.{Vector}
+use Rattle.lists.proofs.Members.{all-map, all-right}
 use Rattle.secrecy.specs.Model.{view, ZeroSum}
 use Rattle.secrecy.specs.Leaks.{number, leaks, Symbols, Leak, Agrees, PairLeak}
 use Rattle.secrecy.proofs.Verdicts.{Small, leaks-iff, equal-numbers, small-leak}
 use Rattle.plans.specs.declared.Plan.{Plan}
 use Rattle.vetting.specs.declared.Pair.{Pair}
-use Rattle.plans.specs.Plans.{poolOf, usersOf}
+use Rattle.plans.specs.Plans.{usersOf}
+use Rattle.vetting.specs.Pools.{poolOf}
 use Rattle.vetting.specs.Walk.{pairs, InWalk, First}
 use Rattle.vetting.specs.Verdict.{leakCheck, otherChecks, verdict, columnChecks}
 use Rattle.refusals.proofs.Orders.{rest-decides, first-accepts}

@@ -7,9 +7,9 @@ use native.Mathlib.Numerals.{add-one}
 use native.Mathlib.Omega.{arith}
 use lib.Dec.{lit<}
 use lib.Pow.{pow-mono}
-use Rattle.secrecy.specs.Counts.{sumTo}
+use Rattle.lists.specs.Sums.{sumTo}
 use Rattle.vetting.specs.Walking.{openTo, openMask, testedMask}
-use Rattle.secrecy.proofs.BitLaws.{mask-below}
+use Rattle.lists.proofs.BitLaws.{mask-below}
 
 module _ (size g : ℕ) where
   pub open-none : 0 ≡ openMask size g 0

@@ -9,9 +9,9 @@ use native.Mathlib.Omega.{arith}
 use lib.Dec.{eqb}
 use lib.Pow.{shr-shr}
 use lib.Count.{trailingZeros}
-use Rattle.arithmetic.specs.Bits.{hasBit}
+use Rattle.lists.specs.Bits.{hasBit}
 use Rattle.secrecy.specs.Model.{inCoalition}
-use Rattle.secrecy.proofs.BitLaws.{digit, half-bound}
+use Rattle.lists.proofs.BitLaws.{digit, half-bound}
 use Rattle.vetting.specs.Walking.{membersFrom}
 
 -- the members, by halving

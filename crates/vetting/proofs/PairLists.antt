@@ -8,11 +8,10 @@ use native.Mathlib.Nat.{not-suc-le-zero, le-of-suc-le-suc, eq-or-lt-of-le}
 use native.Mathlib.Omega.{arith}
 use lib.Dec.{T, leb, leb→le}
 use borrow.Author.Tests.{le-leb}
-use Rattle.arithmetic.proofs.Searches.{true→T}
-use Rattle.matrices.specs.Linear.{All}
-use Rattle.matrices.proofs.Vectors.{all-append, all-left, all-right}
-use Rattle.secrecy.specs.Lists.{tab, joinTo, picked}
-use Rattle.secrecy.specs.Counts.{howMany}
+use Rattle.lists.proofs.Searches.{true→T}
+use Rattle.lists.specs.Lists.{All, tab, joinTo, picked}
+use Rattle.lists.proofs.Members.{all-append, all-left, all-right}
+use Rattle.lists.specs.Sums.{howMany}
 use Rattle.secrecy.specs.Model.{inCoalition}
 use Rattle.plans.specs.declared.Plan.{Plan}
 use Rattle.vetting.specs.declared.Pair.{Pair}

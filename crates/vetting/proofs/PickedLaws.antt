@@ -8,12 +8,12 @@ use native.Mathlib.Omega.{arith}
 use lib.ListN.{length, length-append}
 use lib.Seq.{take-at, drop-at}
 use lib.Dec.{T, ltb}
-use Rattle.arithmetic.specs.Primes.{allBelow}
-use Rattle.arithmetic.proofs.Searches.{T-and, and-T}
-use Rattle.arithmetic.proofs.PrimeLaws.{at-below}
-use Rattle.matrices.specs.Linear.{All, Vector}
+use Rattle.residues.specs.Primes.{allBelow}
+use Rattle.lists.proofs.Searches.{T-and, and-T}
+use Rattle.residues.proofs.PrimeLaws.{at-below}
+use Rattle.lists.specs.Lists.{All, joinTo, picked}
+use Rattle.matrices.specs.Linear.{Vector}
 use Rattle.matrices.specs.Tables.{rowsOf}
-use Rattle.secrecy.specs.Lists.{joinTo, picked}
 
 module _ {A : Type 0} where
   -- equal tests pick the same, and equal lists are the same where they are picked

@@ -7,9 +7,9 @@ use lib.ListN.{length}
 use borrow.Author.Tests.{not-false, eqb-true}
 use Rattle.refusals.specs.Codes.{accepted, firstOf}
 use Rattle.refusals.proofs.CodeLaws.{numbered, none-holds}
-use Rattle.arithmetic.specs.Primes.{Prime, isPrime}
-use Rattle.arithmetic.proofs.PrimeLaws.{true-prime}
-use Rattle.secrecy.specs.Lists.{tab}
+use Rattle.residues.specs.Primes.{Prime, isPrime}
+use Rattle.residues.proofs.PrimeLaws.{true-prime}
+use Rattle.lists.specs.Lists.{tab}
 use Rattle.plans.specs.declared.Plan.{Plan}
 use Rattle.plans.specs.Plans.{usersOf, inBounds}
 use Rattle.vetting.specs.Walk.{pairs}

@@ -9,20 +9,20 @@ use native.Mathlib.Omega.{arith}
 use lib.Dec.{T, eqb}
 use lib.ListN.{length}
 use borrow.Author.Tests.{eq-eqb, ne-eqb}
-use Rattle.arithmetic.specs.Primes.{Prime}
-use Rattle.arithmetic.proofs.PrimeLaws.{prime-pos}
-use Rattle.matrices.specs.Linear.{All, Vector}
+use Rattle.residues.specs.Primes.{Prime}
+use Rattle.residues.proofs.PrimeLaws.{prime-pos}
+use Rattle.lists.specs.Lists.{All, picked}
+use Rattle.matrices.specs.Linear.{Vector}
 use Rattle.matrices.proofs.Notions.{InSpan, Independent}
 use Rattle.matrices.specs.Rank.{rankOver, rankOf}
 use Rattle.matrices.specs.Tables.{rowOf, pivotsFrom}
-use Rattle.matrices.proofs.Vectors.{all-left, all-right, all-snoc}
+use Rattle.lists.proofs.Members.{all-left, all-right, all-snoc}
 use Rattle.matrices.proofs.Spans.{span-members}
 use Rattle.matrices.proofs.RankLaws.{full-rank-iff, rank-larger-span, rank-at-most}
 use Rattle.matrices.proofs.Elimination.{Table, Reduced, reduced-none, eliminated-table, eliminated-reduced, reduced-independent, pivots-are-rank, table-of}
-use Rattle.secrecy.specs.Lists.{picked}
-use Rattle.secrecy.specs.Counts.{howMany}
+use Rattle.lists.specs.Sums.{howMany}
 use Rattle.secrecy.specs.Model.{inCoalition}
-use Rattle.secrecy.proofs.ListLaws.{all-picked, picked-all, length-picked, map-picked}
+use Rattle.lists.proofs.ListLaws.{all-picked, picked-all, length-picked, map-picked}
 use Rattle.vetting.specs.Walking.{membersFrom, reducedBy, tableOf, chosen, dependent}
 use Rattle.vetting.proofs.GatherLaws.{many-most}
 use Rattle.vetting.proofs.PickedLaws.{flat, flat-picked, length-flat, rows-flat, below-flat}

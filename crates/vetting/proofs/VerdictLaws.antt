@@ -11,10 +11,11 @@ use borrow.Author.Tests.{not-false, eqb-true, eq-eqb, ne-eqb}
 use Rattle.secrecy.specs.Model.{columnSum, ZeroSum}
 use Rattle.refusals.specs.Codes.{accepted, firstOf}
 use Rattle.refusals.proofs.CodeLaws.{numbered, NoneHolds, none-holds}
-use Rattle.secrecy.specs.Lists.{tab}
+use Rattle.lists.specs.Lists.{tab}
 use Rattle.secrecy.specs.Leaks.{leaks}
 use Rattle.plans.specs.declared.Plan.{Plan}
-use Rattle.plans.specs.Plans.{poolOf, usersOf}
+use Rattle.plans.specs.Plans.{usersOf}
+use Rattle.vetting.specs.Pools.{poolOf}
 use Rattle.plans.proofs.TableLaws.{Passed, table-passed}
 use Rattle.vetting.specs.Walk.{pairs}
 use Rattle.vetting.specs.Verdict.{columnCheck, leakCheck, otherChecks, verdict, columnChecks}

@@ -15,15 +15,15 @@ use lib.ListN.{length, take, drop, length-append, length-drop}
 use lib.Seq.{length-take-le}
 use Rattle.matrices.specs.Tables.{eliminated}
 use Rattle.matrices.proofs.Elimination.{eliminated-length}
-use Rattle.secrecy.specs.Lists.{tab, joinTo, picked}
-use Rattle.secrecy.specs.Counts.{howMany}
+use Rattle.lists.specs.Lists.{tab, joinTo, picked}
+use Rattle.lists.specs.Sums.{howMany}
 use Rattle.secrecy.specs.Model.{inCoalition}
-use Rattle.secrecy.proofs.ListLaws.{tab-cong}
+use Rattle.lists.proofs.ListLaws.{tab-cong}
 use Rattle.vetting.specs.declared.Pair.{Pair}
 use Rattle.vetting.specs.declared.Found.the-variants.{At, Nothing}
 use Rattle.vetting.specs.Walk.{observers, pairs}
 use Rattle.vetting.specs.Walking.{levelAt, descended, reducedBy, tableOf, firstHit}
-use Rattle.secrecy.proofs.BitLaws.{low-cleared, low-ones, cleared-fewer, cleared-next, ones-many}
+use Rattle.lists.proofs.BitLaws.{low-cleared, low-ones, cleared-fewer, cleared-next, ones-many}
 use Rattle.vetting.proofs.MemberLaws.{members-next, members-none}
 use Rattle.vetting.proofs.GatherLaws.{few-numbers}
 use Rattle.vetting.proofs.LevelLaws.{level-below, level-here}

@@ -11,14 +11,14 @@ use native.Mathlib.Omega.{arith}
 use lib.Dec.{lit<, eqb, ltb, leb, ltb→lt}
 use lib.Pow.{pow-add}
 use borrow.Author.Tests.{eq-eqb, ne-eqb, lt-ltb, le-ltb, le-leb, lt-leb}
-use Rattle.arithmetic.specs.Search.{anyTo, allTo}
-use Rattle.arithmetic.proofs.Searches.{T-and, any-found, not-T→false}
-use Rattle.arithmetic.specs.Bits.{hasBit}
-use Rattle.secrecy.specs.Lists.{picked}
+use Rattle.lists.specs.Search.{anyTo, allTo}
+use Rattle.lists.proofs.Searches.{T-and, any-found, not-T→false}
+use Rattle.lists.specs.Bits.{hasBit}
+use Rattle.lists.specs.Lists.{picked}
 use Rattle.secrecy.specs.Model.{Pool, users, inCoalition, inCluster}
 use Rattle.secrecy.proofs.RankCondition.{outside, opened, tested}
 use Rattle.vetting.specs.Walking.{chosen, clusterMask, openTo, openMask, testedMask, watchMask}
-use Rattle.secrecy.proofs.BitLaws.{lt-or-ge, mask-bits, mask-under, mask-from, mask-has, bit-above, all-ones}
+use Rattle.lists.proofs.BitLaws.{lt-or-ge, mask-bits, mask-under, mask-from, mask-has, bit-above, all-ones}
 use Rattle.vetting.proofs.PickedLaws.{picked-cong, picked-nothing, picked-split}
 
 -- ---- open clusters

@@ -5,12 +5,13 @@ use mathlib.Core.List.{List, _++_, map}
 use lib.Dec.{eqb}
 use Rattle.refusals.specs.declared.Code.{Code}
 use Rattle.refusals.specs.Codes.{firstOf}
-use Rattle.secrecy.specs.Lists.{tab}
+use Rattle.lists.specs.Lists.{tab}
 use Rattle.secrecy.specs.Model.{columnSum}
 use Rattle.secrecy.specs.Leaks.{leaks}
 use Rattle.plans.specs.declared.Plan.{Plan}
 use Rattle.vetting.specs.declared.Pair.{Pair}
-use Rattle.plans.specs.Plans.{poolOf, tableChecks}
+use Rattle.plans.specs.Plans.{tableChecks}
+use Rattle.vetting.specs.Pools.{poolOf}
 use Rattle.vetting.specs.Walk.{pairs}
 
 -- 6 names the first column whose sum is not zero, from 1

@@ -3,9 +3,8 @@ use Prim.Native.Nat.{ℕ, suc, _*_, _^_, _≤_, _<_}
 use mathlib.Core.Path.{_≡_}
 use mathlib.Core.List.{List, [], _∷_, _++_, map}
 use lib.Dec.{leb}
-use Rattle.matrices.specs.Linear.{All}
-use Rattle.secrecy.specs.Lists.{tab, picked}
-use Rattle.secrecy.specs.Counts.{howMany}
+use Rattle.lists.specs.Lists.{All, tab, picked}
+use Rattle.lists.specs.Sums.{howMany}
 use Rattle.secrecy.specs.Model.{inCoalition}
 use Rattle.plans.specs.declared.Plan.{Plan}
 use Rattle.plans.specs.Plans.{usersOf}

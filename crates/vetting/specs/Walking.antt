@@ -6,10 +6,9 @@ use mathlib.Core.Bool.{Bool, cond, not, _&&_}
 use mathlib.Core.List.{List, [], _∷_, _++_}
 use lib.Dec.{eqb}
 use lib.ListN.{take, drop}
-use Rattle.matrices.specs.Linear.{at}
+use Rattle.lists.specs.Lists.{at, tab, joinTo, picked}
 use Rattle.matrices.specs.Tables.{rowOf, eliminated, pivotsFrom}
-use Rattle.secrecy.specs.Lists.{tab, joinTo, picked}
-use Rattle.secrecy.specs.Counts.{sumTo, howMany}
+use Rattle.lists.specs.Sums.{sumTo, howMany}
 use Rattle.secrecy.specs.Model.{inCoalition}
 use Rattle.refusals.specs.declared.Code.{Code}
 use Rattle.refusals.specs.Codes.{accepted}

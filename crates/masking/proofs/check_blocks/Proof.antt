@@ -4,7 +4,7 @@ use mathlib.Core.Path.{_≡_, sym, _∙_}
 use mathlib.Core.Bool.{Bool, true, _&&_}
 use lib.Dec.{eqb}
 use lib.ListN.{length}
-use Rattle.arithmetic.specs.Primes.{isPrime}
+use Rattle.residues.specs.Primes.{isPrime}
 use Rattle.plans.specs.Plans.{lengthFits}
 use Rattle.masking.proofs.check_blocks.Statement.{statement}
 use Rattle.masking.proofs.check_blocks.Tie as tie

@@ -3,11 +3,11 @@ use mathlib.Core.Path.{refl, _∙_}
 use Prim.Native.Nat.{_-_}
 use native.Mathlib.Omega.{arith}
 use lib.ListN.{length}
-use Rattle.arithmetic.specs.Field.{sumOf}
-use Rattle.arithmetic.proofs.PrimeLaws.{below-at}
-use Rattle.arithmetic.proofs.SymbolLaws.{symbol-sum}
-use Rattle.matrices.specs.Linear.{at}
-use Rattle.secrecy.proofs.Filling.{Filling, filling-none, filling-next, filling-less, filling-whole}
+use Rattle.residues.specs.Field.{sumOf}
+use Rattle.residues.proofs.PrimeLaws.{below-at}
+use Rattle.residues.proofs.SymbolLaws.{symbol-sum}
+use Rattle.lists.specs.Lists.{at}
+use Rattle.lists.proofs.Filling.{Filling, filling-none, filling-next, filling-less, filling-whole}
 use Rattle.masking.proofs.write_upload.Statement.{statement}
 use Rattle.masking.proofs.write_upload.Tie as tie
 

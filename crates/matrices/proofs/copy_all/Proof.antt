@@ -3,7 +3,7 @@ use mathlib.Core.Path.{refl}
 use Prim.Native.Nat.{_-_}
 use native.Mathlib.Omega.{arith}
 use lib.ListN.{length}
-use Rattle.matrices.proofs.Fronts.{Front, front-none, front-next, front-whole}
+use Rattle.lists.proofs.Fronts.{Front, front-none, front-next, front-whole}
 use Rattle.matrices.proofs.copy_all.Statement.{statement}
 use Rattle.matrices.proofs.copy_all.Tie as tie
 

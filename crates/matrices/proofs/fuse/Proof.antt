@@ -4,7 +4,7 @@ use mathlib.Core.List.{List, _++_}
 use Prim.Native.Nat.{ℕ, _+_, _-_, _≤_, _<_, zero-le}
 use native.Mathlib.Omega.{arith}
 use lib.ListN.{length, getD, take, drop, set, length-set}
-use Rattle.arithmetic.specs.Field.{mulAddOf}
+use Rattle.residues.specs.Field.{mulAddOf}
 use Rattle.matrices.specs.Tables.{fused}
 use Rattle.matrices.proofs.Steps.{within, less-left, place-of, full, fuse-next, fuse-end}
 use Rattle.matrices.proofs.fuse.Statement.{statement}

@@ -10,7 +10,7 @@ use Rattle.refusals.specs.declared.Refusal.{Refusal}
 use Rattle.refusals.specs.Codes.{codeOf, accepted, firstOf, ifAccepted}
 use Rattle.refusals.specs.declared.Refusal.the-variants.{OutOfBounds, NotPrime, NotASymbol, WrongLength, BadTrailer}
 use Rattle.refusals.proofs.CodeLaws.{refused-keeps, accepted-takes}
-use Rattle.arithmetic.specs.Primes.{isPrime, allBelow}
+use Rattle.residues.specs.Primes.{isPrime, allBelow}
 use Rattle.records.specs.Records.{recordSize, distance, badTrailer, planRead, tableRead, readChecks, readVerdict}
 use Rattle.plans.specs.Plans.{inBounds, noPlan}
 use Rattle.plans.specs.declared.Plan.{Plan}

@@ -4,7 +4,7 @@ use mathlib.Core.List.{List}
 use Prim.Native.Nat.{ℕ, _+_, _≤_}
 use native.Mathlib.Omega.{arith}
 use lib.ListN.{length}
-use Rattle.matrices.specs.Linear.{at}
+use Rattle.lists.specs.Lists.{at}
 use Rattle.records.specs.Records.{word}
 use Rattle.records.proofs.Trailers.{start-room}
 use Rattle.records.proofs.plan_in.Statement.{statement}

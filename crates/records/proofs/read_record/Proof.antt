@@ -5,9 +5,8 @@ use Prim.Native.Nat.{ℕ}
 use native.Mathlib.Omega.{arith}
 use Rattle.refusals.specs.Codes.{accepted}
 use Rattle.refusals.proofs.CodeLaws.{refused-keeps, accepted-takes}
-use Rattle.plans.specs.Plans.{plannedCode, plannedPlan}
+use Rattle.plans.specs.Plans.{plannedCode, plannedPlan, inBounds, noPlan}
 use Rattle.records.specs.Records.{planRead, tableRead, readVerdict, padded}
-use Rattle.plans.specs.Plans.{inBounds, noPlan}
 use Rattle.records.proofs.RecordChecks.{Readable, readable, read-words, words-inside}
 use Rattle.records.proofs.PlanSizes.{bounded}
 use Rattle.records.proofs.read_record.Statement.{statement}

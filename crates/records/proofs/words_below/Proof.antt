@@ -2,7 +2,7 @@
 use mathlib.Core.Path.{_≡_, refl, sym, _∙_}
 use Prim.Native.Nat.{_+_, _*_}
 use native.Mathlib.Omega.{arith}
-use Rattle.arithmetic.specs.Primes.{allBelow}
+use Rattle.residues.specs.Primes.{allBelow}
 use Rattle.records.specs.Records.{wordsOf}
 use Rattle.records.proofs.Bytes.{word-not-below, word-below, no-words-below}
 use Rattle.records.proofs.words_below.Statement.{statement}

@@ -4,7 +4,7 @@ use mathlib.Core.List.{List}
 use Prim.Native.Nat.{ℕ, _+_, _-_, _*_, _/_, _%_, _<_}
 use native.Mathlib.Omega.{arith}
 use lib.ListN.{length, take, set, length-set}
-use Rattle.matrices.specs.Linear.{at}
+use Rattle.lists.specs.Lists.{at}
 use Rattle.records.specs.Records.{bytesOfAll}
 use Rattle.records.proofs.Bytes.{length-bytes, low-at, high-at}
 use Rattle.records.proofs.Fills.{fill-next, fill-done}

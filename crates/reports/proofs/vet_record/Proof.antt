@@ -10,7 +10,7 @@ use lib.Seq.{take-append-seam}
 use Rattle.refusals.specs.declared.Code.{Code}
 use Rattle.refusals.specs.Codes.{accepted, code, firstOf}
 use Rattle.refusals.proofs.CodeLaws.{accepted-takes}
-use Rattle.matrices.specs.Linear.{zeros}
+use Rattle.lists.specs.Lists.{zeros}
 use Rattle.plans.specs.declared.Plan.{Plan}
 use Rattle.plans.specs.Plans.{usersOf, inBounds, noPlan, plannedCode, plannedPlan}
 use Rattle.vetting.specs.Verdict.{vetChecks, verdict}

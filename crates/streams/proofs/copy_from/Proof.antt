@@ -4,7 +4,7 @@ use mathlib.Core.Path.{refl, sym}
 use Prim.Native.Nat.{_-_}
 use native.Mathlib.Omega.{arith}
 use lib.ListN.{length, length-set}
-use Rattle.matrices.proofs.Fronts.{Front, front-none, front-next, front-whole, length-part, part-at}
+use Rattle.lists.proofs.Fronts.{Front, front-none, front-next, front-whole, length-part, part-at}
 use Rattle.streams.specs.Streams.{drawn}
 use Rattle.streams.proofs.copy_from.Statement.{statement}
 use Rattle.streams.proofs.copy_from.Tie as tie

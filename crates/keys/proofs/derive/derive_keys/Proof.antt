@@ -2,7 +2,7 @@ use mathlib.Core.Path.{refl, _≡_, _∙_}
 use Rattle.refusals.specs.declared.Code.{Code}
 use Rattle.refusals.specs.Codes.{accepted}
 use Rattle.refusals.proofs.Answers.{passes, takes, keeps}
-use Rattle.arithmetic.proofs.PrimeLaws.{prime-pos}
+use Rattle.residues.proofs.PrimeLaws.{prime-pos}
 use Rattle.keys.specs.Keys.{keyCode}
 use Rattle.keys.proofs.KeyLaws.{derivable}
 use Rattle.keys.proofs.derive.derive_keys.Statement.{statement}

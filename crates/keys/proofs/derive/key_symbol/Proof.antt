@@ -3,9 +3,9 @@ use mathlib.Core.Path.{_≡_, refl, ap, _∙_}
 use Prim.Native.Nat.{ℕ, _-_, _*_, _%_, _≤_, zero-le}
 use native.Mathlib.Omega.{arith}
 use lib.ListN.{length}
-use Rattle.matrices.specs.Linear.{at}
-use Rattle.secrecy.specs.Counts.{sumTo}
-use Rattle.secrecy.proofs.RunningSum.{kept-none, kept-next}
+use Rattle.lists.specs.Lists.{at}
+use Rattle.lists.specs.Sums.{sumTo}
+use Rattle.residues.proofs.RunningSum.{kept-none, kept-next}
 use Rattle.keys.proofs.derive.key_symbol.Statement.{statement}
 use Rattle.keys.proofs.derive.key_symbol.Tie as tie
 

@@ -5,11 +5,11 @@ use Prim.Native.Nat.{ℕ, _+_, _-_, _*_, _%_, _≤_}
 use native.Mathlib.Nat.{le-add-right, add-sub-cancel-left}
 use native.Mathlib.Omega.{arith}
 use lib.ListN.{length}
-use Rattle.matrices.specs.Linear.{at}
-use Rattle.secrecy.specs.Counts.{sumTo}
-use Rattle.secrecy.proofs.Sums.{sum-cong}
-use Rattle.secrecy.proofs.Filling.{Filling, filling-none, filling-next, filling-less, filling-whole}
-use Rattle.matrices.proofs.Fronts.{row-fits, length-part, part-at}
+use Rattle.lists.specs.Lists.{at}
+use Rattle.lists.specs.Sums.{sumTo}
+use Rattle.lists.proofs.Sums.{sum-cong}
+use Rattle.lists.proofs.Filling.{Filling, filling-none, filling-next, filling-less, filling-whole}
+use Rattle.lists.proofs.Fronts.{row-fits, length-part, part-at}
 use Rattle.keys.proofs.derive.user_keys.Statement.{statement}
 use Rattle.keys.proofs.derive.user_keys.Tie as tie
 

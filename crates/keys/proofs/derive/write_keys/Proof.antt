@@ -5,7 +5,7 @@ use native.Mathlib.Nat.{le-add-right, add-sub-cancel-left}
 use native.Mathlib.Omega.{arith}
 use lib.ListN.{length, take, drop}
 use Rattle.plans.specs.Plans.{usersOf}
-use Rattle.matrices.proofs.Fronts.{Front, front-none, front-part, front-whole, row-fits, length-part}
+use Rattle.lists.proofs.Fronts.{Front, front-none, front-part, front-whole, row-fits, length-part}
 use Rattle.keys.proofs.KeyLaws.{keyRows, keys-are, length-keys, keys-of-row}
 use Rattle.keys.proofs.derive.write_keys.Statement.{statement}
 use Rattle.keys.proofs.derive.write_keys.Tie as tie

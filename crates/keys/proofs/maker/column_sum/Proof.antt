@@ -4,9 +4,9 @@ use Prim.Native.Nat.{ℕ, _+_, _-_, _*_, _%_, _≤_}
 use native.Mathlib.Nat.{mul-le-mul}
 use native.Mathlib.Omega.{arith}
 use lib.ListN.{length}
-use Rattle.matrices.specs.Linear.{at}
-use Rattle.secrecy.specs.Counts.{sumTo}
-use Rattle.secrecy.proofs.RunningSum.{kept-none, kept-next}
+use Rattle.lists.specs.Lists.{at}
+use Rattle.lists.specs.Sums.{sumTo}
+use Rattle.residues.proofs.RunningSum.{kept-none, kept-next}
 use Rattle.keys.proofs.maker.column_sum.Statement.{statement}
 use Rattle.keys.proofs.maker.column_sum.Tie as tie
 

@@ -3,8 +3,8 @@ use mathlib.Core.Path.{sym, ap, _∙_, subst}
 use Prim.Native.Nat.{ℕ, _+_, _-_, _*_, _%_, _≤_}
 use native.Mathlib.Omega.{arith}
 use lib.ListN.{set}
-use Rattle.arithmetic.specs.Field.{oppositeOf}
-use Rattle.matrices.proofs.Fronts.{Front, front-next, front-whole}
+use Rattle.residues.specs.Field.{oppositeOf}
+use Rattle.lists.proofs.Fronts.{Front, front-next, front-whole}
 use Rattle.keys.proofs.MakerSteps.{withLast, last-start, last-at, column-stays}
 use Rattle.keys.proofs.maker.fill_last.Statement.{statement}
 use Rattle.keys.proofs.maker.fill_last.Tie as tie

@@ -3,8 +3,8 @@ use mathlib.Core.Path.{refl}
 use Prim.Native.Nat.{_-_}
 use native.Mathlib.Omega.{arith}
 use lib.ListN.{length}
-use Rattle.arithmetic.specs.Field.{powerOf}
-use Rattle.secrecy.proofs.Filling.{Filling, filling-none, filling-next, filling-less, filling-whole}
+use Rattle.residues.specs.Field.{powerOf}
+use Rattle.lists.proofs.Filling.{Filling, filling-none, filling-next, filling-less, filling-whole}
 use Rattle.keys.proofs.maker.fill_row.Statement.{statement}
 use Rattle.keys.proofs.maker.fill_row.Tie as tie
 

@@ -3,8 +3,8 @@ use mathlib.Core.Path.{_≡_, sym, ap, _∙_}
 use Prim.Native.Nat.{ℕ, _+_, _-_, _*_, _≤_}
 use native.Mathlib.Omega.{arith}
 use lib.ListN.{length}
-use Rattle.secrecy.proofs.ListLaws.{length-tab}
-use Rattle.matrices.proofs.Fronts.{Front, front-none, front-part, front-whole, row-fits, length-part}
+use Rattle.lists.proofs.ListLaws.{length-tab}
+use Rattle.lists.proofs.Fronts.{Front, front-none, front-part, front-whole, row-fits, length-part}
 use Rattle.keys.proofs.MakerSteps.{powerRows, powers-part}
 use Rattle.keys.proofs.maker.fill_rows.Statement.{statement}
 use Rattle.keys.proofs.maker.fill_rows.Tie as tie

@@ -5,8 +5,8 @@ use Prim.Native.Nat.{ℕ, _+_, _-_, _*_}
 use native.Mathlib.Omega.{arith}
 use lib.ListN.{length}
 use lib.Seq.{length-take-le, length-front}
-use Rattle.arithmetic.specs.Primes.{Prime}
-use Rattle.arithmetic.proofs.PrimeLaws.{true-prime, prime-pos}
+use Rattle.residues.specs.Primes.{Prime}
+use Rattle.residues.proofs.PrimeLaws.{true-prime, prime-pos}
 use Rattle.plans.specs.Plans.{usersOf}
 use Rattle.plans.proofs.PlanBounds.{Bounds, bounds-known, some-users}
 use Rattle.keys.proofs.MakerLaws.{made-is}

@@ -9,7 +9,7 @@ use Rattle.refusals.specs.declared.Code.{Code}
 use Rattle.refusals.specs.Codes.{accepted, codeOf, verdictCode, firstOf, ifAccepted}
 use Rattle.refusals.proofs.CodeLaws.{NoneHolds, none-holds, refused-keeps, accepted-takes}
 use Rattle.refusals.proofs.Orders.{first-refuses, none-decide}
-use Rattle.arithmetic.specs.Primes.{isPrime}
+use Rattle.residues.specs.Primes.{isPrime}
 use Rattle.plans.specs.declared.Plan.{Plan}
 use Rattle.plans.specs.declared.Planned.{Planned}
 use Rattle.plans.specs.Plans.{noPlan, usersOf, inBounds, plannedCode, plannedPlan}

@@ -5,7 +5,7 @@ use Prim.Native.Nat.{ℕ, _-_, _*_}
 use native.Mathlib.Nat.{mul-le-mul}
 use native.Mathlib.Omega.{arith}
 use lib.Dec.{leb}
-use Rattle.arithmetic.specs.Primes.{isPrime}
+use Rattle.residues.specs.Primes.{isPrime}
 use Rattle.plans.specs.declared.Plan.{Plan}
 use Rattle.plans.specs.Plans.{plan, countsFit, inBounds}
 use Rattle.keys.specs.Maker.{rateOf}

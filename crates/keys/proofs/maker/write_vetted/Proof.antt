@@ -8,7 +8,7 @@ use lib.ListN.{length}
 use Rattle.refusals.specs.declared.Code.{Code}
 use Rattle.refusals.specs.Codes.{verdictCode, firstOf}
 use Rattle.refusals.proofs.CodeLaws.{new-taken, old-kept}
-use Rattle.arithmetic.proofs.PrimeLaws.{true-prime}
+use Rattle.residues.proofs.PrimeLaws.{true-prime}
 use Rattle.vetting.specs.Walk.{pairs}
 use Rattle.vetting.specs.Verdict.{leakCheck, verdict}
 use Rattle.keys.specs.Maker.{madeTable}

@@ -7,7 +7,7 @@ use Prim.Native.Nat.{ℕ, _≤_, _-_}
 use native.Mathlib.Omega.{arith}
 use lib.Dec.{eqb}
 use lib.ListN.{length}
-use Rattle.arithmetic.specs.Search.{allTo}
+use Rattle.lists.specs.Search.{allTo}
 use Rattle.testing.specs.Slices.{at, sameFront}
 use Rattle.testing.proofs.Loops.{all-next, fails}
 use Rattle.testing.proofs.slices.same.Statement.{statement}

@@ -2,7 +2,7 @@
 use mathlib.Core.Path.{_≡_, sym, _∙_}
 use Prim.Native.Nat.{ℕ, _-_, _≤_, _<_}
 use native.Mathlib.Omega.{arith}
-use Rattle.plans.specs.Plans.{poolOf}
+use Rattle.vetting.specs.Pools.{poolOf}
 use Rattle.secrecy.specs.Model.{columnSum}
 use Rattle.plans.proofs.PlanBounds.{bounds-known}
 use Rattle.vetting.proofs.VerdictLaws.{columns-zero, column-first, zeros-next}

@@ -6,7 +6,7 @@ use Rattle.plans.specs.Plans.{tableChecks}
 use Rattle.vetting.specs.Verdict.{columnChecks}
 use Rattle.refusals.specs.Codes.{accepted, firstOf}
 use Rattle.refusals.proofs.Answers.{passes, first-answers}
-use Rattle.arithmetic.proofs.PrimeLaws.{prime-pos}
+use Rattle.residues.proofs.PrimeLaws.{prime-pos}
 use Rattle.refusals.proofs.Orders.{rest-decides}
 use Rattle.plans.proofs.TableLaws.{table-passed}
 use Rattle.vetting.proofs.verdict.check_table.Statement.{statement}

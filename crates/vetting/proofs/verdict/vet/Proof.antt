@@ -4,7 +4,7 @@ use mathlib.Core.Path.{_≡_, sym, ap, _∙_}
 use mathlib.Core.List.{map}
 use Rattle.refusals.specs.Codes.{accepted, firstOf}
 use Rattle.refusals.proofs.Answers.{passes, first-answers}
-use Rattle.arithmetic.proofs.PrimeLaws.{prime-pos}
+use Rattle.residues.proofs.PrimeLaws.{prime-pos}
 use Rattle.vetting.specs.Walk.{pairs}
 use Rattle.vetting.specs.Verdict.{leakCheck, otherChecks, verdict, columnChecks}
 use Rattle.vetting.specs.Walking.{foundCode}

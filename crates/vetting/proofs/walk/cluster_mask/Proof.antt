@@ -1,7 +1,7 @@
 use Prim.Native.Nat.{_*_}
 use native.Mathlib.Omega.{arith}
 use lib.Pow.{pow-pos}
-use Rattle.secrecy.proofs.BitLaws.{one-shl, mask-shl}
+use Rattle.lists.proofs.BitLaws.{one-shl, mask-shl}
 use Rattle.vetting.proofs.walk.cluster_mask.Statement.{statement}
 use Rattle.vetting.proofs.walk.cluster_mask.Tie as tie
 

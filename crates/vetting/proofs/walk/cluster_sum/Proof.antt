@@ -3,11 +3,11 @@ use mathlib.Core.Path.{refl, _≡_, ap, _∙_}
 use Prim.Native.Nat.{ℕ, _+_, _-_, _*_, _%_, _≤_, _<_}
 use native.Mathlib.Omega.{arith}
 use lib.ListN.{length}
-use Rattle.matrices.specs.Linear.{at}
-use Rattle.secrecy.specs.Counts.{sumTo}
+use Rattle.lists.specs.Lists.{at}
+use Rattle.lists.specs.Sums.{sumTo}
 use Rattle.vetting.specs.Walking.{clusterSum}
 use Rattle.vetting.proofs.BaseLaws.{rows-below}
-use Rattle.secrecy.proofs.RunningSum.{kept-none, kept-next}
+use Rattle.residues.proofs.RunningSum.{kept-none, kept-next}
 use Rattle.vetting.proofs.GatherLaws.{room}
 use borrow.Author.Needs.{needs}
 use Rattle.vetting.proofs.walk.cluster_sum.Statement.{statement}

@@ -7,8 +7,8 @@ use Prim.Native.Nat.{ℕ, _+_, _-_, _*_, _≤_, _<_}
 use native.Mathlib.Omega.{arith}
 use lib.ListN.{length, take}
 use Rattle.matrices.specs.Tables.{rowOf}
-use Rattle.secrecy.specs.Lists.{picked}
-use Rattle.secrecy.specs.Counts.{howMany}
+use Rattle.lists.specs.Lists.{picked}
+use Rattle.lists.specs.Sums.{howMany}
 use Rattle.vetting.specs.Walking.{chosen}
 use Rattle.vetting.proofs.GatherLaws.{many-none, many-most, picked-none, gather-taken, gather-passed, row-length, put-length, room}
 use Rattle.vetting.proofs.walk.gather.Statement.{statement}

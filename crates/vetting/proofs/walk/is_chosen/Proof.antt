@@ -2,7 +2,7 @@ use borrow.Author.Tests.{ne-eqb}
 use mathlib.Core.Path.{refl, sym, _∙_}
 use Prim.Native.Nat.{_/_, _%_, _^_}
 use lib.Bits.{and-mask}
-use Rattle.arithmetic.specs.Bits.{hasBit}
+use Rattle.lists.specs.Bits.{hasBit}
 use native.Mathlib.Omega.{arith}
 use Rattle.vetting.proofs.walk.is_chosen.Statement.{statement}
 use Rattle.vetting.proofs.walk.is_chosen.Tie as tie

@@ -4,7 +4,7 @@ use native.Mathlib.Nat.{one-mul}
 use native.Mathlib.Omega.{arith}
 use lib.Pow.{pow-pos}
 use lib.Bits.{and-mask}
-use Rattle.secrecy.proofs.BitLaws.{one-shl}
+use Rattle.lists.proofs.BitLaws.{one-shl}
 use Rattle.vetting.proofs.walk.is_open.Statement.{statement}
 use Rattle.vetting.proofs.walk.is_open.Tie as tie
 

@@ -6,12 +6,12 @@ use lib.Dec.{lit≤}
 use native.Mathlib.Nat.{add-mul, le-trans, le-add-left, le-add-right, sub-zero, add-sub-cancel-left}
 use native.Mathlib.Omega.{arith}
 use lib.ListN.{length}
-use Rattle.secrecy.specs.Lists.{tab, joinTo}
-use Rattle.secrecy.proofs.ListLaws.{length-tab}
+use Rattle.lists.specs.Lists.{tab, joinTo}
+use Rattle.lists.proofs.ListLaws.{length-tab}
 use Rattle.plans.specs.Plans.{usersOf}
 use Rattle.vetting.specs.Walking.{clusterSum, baseTable}
 use Rattle.plans.proofs.PlanBounds.{Bounds, bounds-known}
-use Rattle.secrecy.proofs.Joins.{length-join}
+use Rattle.lists.proofs.Joins.{length-join}
 use Rattle.vetting.proofs.BaseLaws.{base-room, copy-length, both-length, both-front}
 use Rattle.vetting.proofs.walk.set_base.Statement.{statement}
 use Rattle.vetting.proofs.walk.set_base.Tie as tie

@@ -2,8 +2,8 @@
 use mathlib.Core.Path.{refl, ap, _∙_}
 use Prim.Native.Nat.{ℕ, _-_}
 use native.Mathlib.Omega.{arith}
-use Rattle.secrecy.specs.Lists.{tab}
-use Rattle.secrecy.proofs.Filling.{Filling, filling-none, filling-next, filling-whole}
+use Rattle.lists.specs.Lists.{tab}
+use Rattle.lists.proofs.Filling.{Filling, filling-none, filling-next, filling-whole}
 use Rattle.vetting.specs.Walking.{clusterSum}
 use borrow.Author.Needs.{needs}
 use Rattle.vetting.proofs.walk.sum_row.Statement.{statement}

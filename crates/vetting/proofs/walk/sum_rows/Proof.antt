@@ -6,8 +6,8 @@ use native.Mathlib.Omega.{arith}
 use lib.ListN.{length, take, drop, length-drop}
 use lib.Seq.{length-take-le, take-all}
 use borrow.Rule.Slice.PartMut.{same-len-mid}
-use Rattle.secrecy.specs.Lists.{tab, joinTo}
-use Rattle.secrecy.proofs.ListLaws.{length-tab}
+use Rattle.lists.specs.Lists.{tab, joinTo}
+use Rattle.lists.proofs.ListLaws.{length-tab}
 use Rattle.vetting.specs.Walking.{clusterSum}
 use Rattle.vetting.proofs.BaseLaws.{join-none, join-next, cluster-fits}
 use Rattle.vetting.proofs.GatherLaws.{room}

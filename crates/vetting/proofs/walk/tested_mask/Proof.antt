@@ -7,7 +7,7 @@ use native.Mathlib.Nat.{mul-le-mul, one-mul, add-zero}
 use native.Mathlib.Omega.{arith}
 use lib.Pow.{pow-mono}
 use Rattle.vetting.specs.Walking.{openTo, openMask, testedMask}
-use Rattle.secrecy.proofs.BitLaws.{one-shl}
+use Rattle.lists.proofs.BitLaws.{one-shl}
 use Rattle.vetting.proofs.MaskLaws.{open-none, open-next, open-below, tested-none, tested-next, tested-below}
 use Rattle.vetting.proofs.walk.tested_mask.Statement.{statement}
 use Rattle.vetting.proofs.walk.tested_mask.Tie as tie

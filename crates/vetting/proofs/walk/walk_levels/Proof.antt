@@ -13,7 +13,7 @@ use Rattle.vetting.specs.declared.Pair.{Pair}
 use Rattle.plans.specs.Plans.{plan}
 use Rattle.vetting.specs.Walk.{observers}
 use Rattle.vetting.specs.Walking.{watchMask, dependent, tableOf, hit, firstHit, walked}
-use Rattle.secrecy.proofs.BitLaws.{one-shl, low-ones}
+use Rattle.lists.proofs.BitLaws.{one-shl, low-ones}
 use Rattle.vetting.proofs.WalkLaws.{Holds, Full, to-next, full-none, full-skip, full-at, full-step, pairOf, observersFrom, observers-are, observers-next, observers-none, pairsFrom, pairs-are, pairs-kept, pairs-skipped, pairs-end, hit-first, miss-first, hit-none}
 use Rattle.vetting.proofs.walk.walk_levels.Statement.{statement}
 use Rattle.vetting.proofs.walk.walk_levels.Tie as tie

@@ -8,7 +8,7 @@ use native.Mathlib.Omega.{arith}
 use lib.ListN.{length, take, drop, set, length-append, length-drop, length-set}
 use lib.Seq.{take-suc, take-suc-set, take-all, take-at, take-add, length-take-le, getD-take, getD-drop}
 use borrow.Rule.Slice.PartMut.{same-len-mid}
-use Rattle.matrices.specs.Linear.{at}
+use Rattle.lists.specs.Lists.{at}
 
 -- ---- a part of a list, from b on, n numbers
 

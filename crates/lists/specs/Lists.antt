@@ -2,6 +2,20 @@
 use Prim.Native.Nat.{ℕ, zero, suc}
 use mathlib.Core.Bool.{Bool, cond}
 use mathlib.Core.List.{List, [], _∷_, _++_}
+use lib.ListN.{getD, replicate}
+
+-- the entry at index i, 0 past the end
+abbrev pub at : List ℕ → ℕ → ℕ
+at r i = getD r i 0
+
+-- each member of a list has the property
+abbrev pub All : {A : Type 0} → (A → Type 0) → List A → Type 0
+All P [] = Unit {0}
+All P (x ∷ l) = P x × All P l
+
+-- n zeros
+abbrev pub zeros : ℕ → List ℕ
+zeros n = replicate n 0
 
 -- f 0, f 1, .., f (n - 1)
 unfoldable pub tab : ℕ → (ℕ → ℕ) → List ℕ

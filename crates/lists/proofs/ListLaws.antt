@@ -4,18 +4,14 @@ use mathlib.Core.Path.{_≡_, refl, sym, ap, ap₂, _∙_, subst}
 use mathlib.Core.Bool.{Bool, true, false, cond}
 use mathlib.Core.Logic.{⊎-elim}
 use mathlib.Core.List.{List, [], _∷_, _++_, map, map-append, head-eq-of-cons-eq, tail-eq-of-cons-eq}
-use native.Mathlib.Nat.{suc-ne-zero, suc-inj, not-suc-le-zero, le-of-suc-le-suc, lt-suc-self, zero-lt-suc, eq-or-lt-of-le}
-use native.Mathlib.Decide.{decLt}
+use native.Mathlib.Nat.{zero-add, suc-add, suc-ne-zero, suc-inj, not-suc-le-zero, le-of-suc-le-suc, lt-suc-self, zero-lt-suc, eq-or-lt-of-le}
 use native.Mathlib.Omega.{arith}
-use lib.ListN.{length, length-append, List·getD-append, List·getD-eq-default}
-use lib.Seq.{ext-getD, getD-append-add}
+use lib.ListN.{length, length-append, length-replicate}
+use lib.Seq.{ext-getD}
 use lib.Dec.{T}
-use Rattle.matrices.specs.Linear.{at, All, Vector}
-use Rattle.matrices.proofs.Notions.{dotN}
-use Rattle.matrices.proofs.Vectors.{all-append, all-left, all-right, all-at}
-use Rattle.secrecy.specs.Lists.{tab, joinTo, picked}
-use Rattle.secrecy.specs.Counts.{sumTo, howMany}
-use Rattle.secrecy.proofs.Sums.{sum-front}
+use Rattle.lists.specs.Lists.{at, All, tab, joinTo, picked, zeros}
+use Rattle.lists.proofs.Members.{all-append, all-left, all-right}
+use Rattle.lists.specs.Sums.{sumTo, howMany}
 
 -- ---- a list by its entries
 
@@ -44,39 +40,27 @@ tab-at n f l e h =
     ext-getD 0 (tab n f) l (length-tab n f ∙ sym e)
     (λ i k. let b : i < n = subst (λ (z : ℕ). i < z) (length-tab n f) k in at-tab n f i b ∙ h i b)
 
--- entries below q
-pub tab-vector : (q n : ℕ) (f : ℕ → ℕ) → ((k : ℕ) → k < n → f k < q) → Vector q n (tab n f)
-tab-vector q n f h =
-    record { size = length-tab n f; small = λ i l. subst (λ (z : ℕ). z < q) (sym (at-tab n f i l)) (h i l) }
+-- the entries from m on
+pub tab-append : (m n : ℕ) (f : ℕ → ℕ) → tab (m + n) f ≡ tab m f ++ tab n (λ k. f (m + k))
+unfolding tab
+tab-append zero n f =
+    ap (λ (k : ℕ). tab k f) (zero-add n) ∙ tab-cong n f (λ k. f (zero + k)) (λ k _. ap f (sym (zero-add k)))
+tab-append (suc m) n f =
+    ap (λ (k : ℕ). tab k f) (suc-add m n)
+    ∙ ap (λ (l : List ℕ). f 0 ∷ l) (tab-append m n (λ k. f (suc k)))
+    ∙ ap (λ (l : List ℕ). tab (suc m) f ++ l) (tab-cong n (λ k. f (suc (m + k))) (λ k. f (suc m + k)) (λ k _. ap f (sym (suc-add m k))))
 
--- the product of two lists made of their entries
-pub dot-tab : (n : ℕ) (f g : ℕ → ℕ) → dotN (tab n f) (tab n g) ≡ sumTo n (λ k. f k * g k)
-unfolding tab sumTo
-dot-tab zero f g = refl
-dot-tab (suc n) f g =
-    ap (λ (z : ℕ). f 0 * g 0 + z) (dot-tab n (λ k. f (suc k)) (λ k. g (suc k))) ∙ sym (sum-front n (λ k. f k * g k))
+-- ---- zeros
 
--- ---- numbers below q
+-- an entry of zeros
+pub el-zeros : (n i : ℕ) → at (zeros n) i ≡ 0
+el-zeros zero i = refl
+el-zeros (suc n) zero = refl
+el-zeros (suc n) (suc i) = el-zeros n i
 
--- past the end stands 0, which is below q too
-pub entry-below : (q n : ℕ) (l : List ℕ) → 0 < q → Vector q n l → (k : ℕ) → at l k < q
-entry-below q n l pos v k = go (decLt k n)
-  where
-    go : Dec (k < n) → at l k < q
-    go (yes h) = v .small k h
-    go (no h) = subst (λ (z : ℕ). z < q) (sym (List·getD-eq-default l 0 (omega (arith, v .size)))) pos
-
--- one list after the other
-pub vector-append : (q m n : ℕ) (a c : List ℕ) → Vector q m a → Vector q n c → Vector q (m + n) (a ++ c)
-vector-append q m n a c v w =
-    record { size = length-append a c ∙ ap₂ _+_ (v .size) (w .size); small = λ i l. go i l (decLt i m) }
-  where
-    go : (i : ℕ) → i < m + n → Dec (i < m) → at (a ++ c) i < q
-    go i l (yes h) = subst (λ (z : ℕ). z < q) (sym (List·getD-append a c 0 i (omega (arith, v .size)))) (v .small i h)
-    go i l (no h) =
-        subst (λ (z : ℕ). z < q)
-        (sym (ap (at (a ++ c)) (omega (arith, v .size)) ∙ getD-append-add a c (i - m) 0))
-        (w .small (i - m) (omega arith))
+-- the length of zeros
+pub length-zeros : (n : ℕ) → length (zeros n) ≡ n
+length-zeros n = length-replicate n 0
 
 -- ---- what is picked
 
@@ -125,15 +109,6 @@ pub many-all : (n : ℕ) → howMany n (λ _. true) ≡ n
 unfolding howMany sumTo
 many-all zero = refl
 many-all (suc n) = omega (arith, many-all n)
-
--- numbers below q
-pub vector-picked : (q n : ℕ) (b : ℕ → Bool) (f : ℕ → ℕ) → ((i : ℕ) → i < n → T (b i) → f i < q) → Vector q (howMany n b) (picked n b (λ i. f i ∷ []))
-vector-picked q n b f h =
-    let l : List ℕ = picked n b (λ i. f i ∷ []) in
-    record {
-      size = length-picked n b f;
-      small = λ i k. all-at (λ x. x < q) l (all-picked (λ x. x < q) n b f h) i (subst (λ (z : ℕ). i < z) (sym (length-picked n b f)) k) 0;
-    }
 
 -- a function of each that is picked
 pub map-picked : {A B : Type 0} (n : ℕ) (b : ℕ → Bool) (h : A → B) (f : ℕ → A) → map h (picked n b (λ i. f i ∷ [])) ≡ picked n b (λ i. h (f i) ∷ [])

@@ -4,9 +4,9 @@ use mathlib.Core.Path.{_≡_, sym, _∙_}
 use mathlib.Core.List.{List}
 use native.Mathlib.Omega.{arith}
 use lib.ListN.{length, set, length-set}
-use Rattle.matrices.proofs.Fronts.{Front, front-none, front-next, front-whole}
-use Rattle.secrecy.specs.Lists.{tab}
-use Rattle.secrecy.proofs.ListLaws.{at-tab, length-tab}
+use Rattle.lists.proofs.Fronts.{Front, front-none, front-next, front-whole}
+use Rattle.lists.specs.Lists.{tab}
+use Rattle.lists.proofs.ListLaws.{at-tab, length-tab}
 
 -- T, which was T₀, begins with f 0, .., f (k - 1)
 abbrev pub Filling : (ℕ → ℕ) → List ℕ → List ℕ → ℕ → Type 0

@@ -11,9 +11,9 @@ use lib.Dec.{lit<, eqb, ltb, leb}
 use lib.Pow.{pow-pos, pow-mono, pow-lt, mod-pow-add, shl-exact, shl-lt, ones-lt, shl-shr, shr-shr, ones-split, high, pow-add}
 use lib.Count.{ones, ones-cat, trailingZeros}
 use borrow.Author.Tests.{eq-eqb, ne-eqb, lt-ltb, le-ltb, le-leb, lt-leb, ltb-true, ltb-false}
-use Rattle.arithmetic.specs.Search.{allTo}
-use Rattle.arithmetic.specs.Bits.{hasBit}
-use Rattle.secrecy.specs.Counts.{sumTo, howMany}
+use Rattle.lists.specs.Search.{allTo}
+use Rattle.lists.specs.Bits.{hasBit}
+use Rattle.lists.specs.Sums.{sumTo, howMany}
 
 pub lt-or-ge : (a b : ℕ) → (a < b) ⊎ (b ≤ a)
 lt-or-ge a b = go (ltb a b) refl

@@ -1,12 +1,11 @@
 -- Laws of sums, as numbers and modulo q.
 use Prim.Native.Nat.{ℕ, zero, suc, _+_, _-_, _*_, _%_, _≤_, _<_}
-use mathlib.Core.Path.{_≡_, refl, sym, ap, ap₂, _∙_, subst}
+use mathlib.Core.Path.{_≡_, refl, sym, ap, ap₂, _∙_}
 use mathlib.Core.Logic.{_≢_, ⊎-elim}
 use native.Mathlib.Nat.{add-zero, add-suc, add-assoc, add-comm, mod-eq-of-lt, add-mod-left, zero-mul, suc-mul}
 use native.Mathlib.Nat.{lt-suc-self, eq-or-lt-of-le, le-of-suc-le-suc, not-suc-le-zero}
 use native.Mathlib.Omega.{arith}
-use Rattle.arithmetic.proofs.Congruence.{Cong, c-refl, c-add}
-use Rattle.secrecy.specs.Counts.{sumTo}
+use Rattle.lists.specs.Sums.{sumTo}
 
 -- equal summands have equal sums
 pub sum-cong : (n : ℕ) (f g : ℕ → ℕ) → ((k : ℕ) → k < n → f k ≡ g k) → sumTo n f ≡ sumTo n g
@@ -83,28 +82,3 @@ sum-one (suc n) f k h e z =
     (λ c. ap₂ _+_ (sum-zero n f (λ i l. z i (omega arith) (omega arith))) (ap f (sym c) ∙ e))
     (λ c. ap₂ _+_ (sum-one n f k c e (λ i l. z i (omega arith))) (z n (lt-suc-self n) (omega arith)))
     (eq-or-lt-of-le (le-of-suc-le-suc h))
-
--- ---- modulo q
-
-module _ {q : ℕ} where
-  -- congruent summands have congruent sums
-  pub sum-c : (n : ℕ) (f g : ℕ → ℕ) → ((i : ℕ) → i < n → Cong q (f i) (g i)) → Cong q (sumTo n f) (sumTo n g)
-  unfolding sumTo
-  sum-c zero f g h = c-refl
-  sum-c (suc n) f g h = c-add (sum-c n f g (λ i l. h i (omega arith))) (h n (lt-suc-self n))
-
-  c-cancel : {a b x y : ℕ} → Cong q a b → Cong q (a + x) (b + y) → Cong q x y
-  c-cancel c e = record { up = e .up + c .dn; dn = e .dn + c .up; eq = omega arith }
-
-  c-cancel-right : {a b x y : ℕ} → Cong q x y → Cong q (a + x) (b + y) → Cong q a b
-  c-cancel-right c e = record { up = e .up + c .dn; dn = e .dn + c .up; eq = omega arith }
-
-  -- where the sums are congruent, and all summands but one, that one is too
-  pub sum-left : (n : ℕ) (f g : ℕ → ℕ) (k : ℕ) → k < n → ((i : ℕ) → i < n → i ≢ k → Cong q (f i) (g i)) → Cong q (sumTo n f) (sumTo n g) → Cong q (f k) (g k)
-  unfolding sumTo
-  sum-left zero f g k h others all = absurd (not-suc-le-zero h)
-  sum-left (suc n) f g k h others all =
-      ⊎-elim
-      (λ e. subst (λ (j : ℕ). Cong q (f j) (g j)) (sym e) (c-cancel (sum-c n f g (λ i l. others i (omega arith) (omega arith))) all))
-      (λ c. sum-left n f g k c (λ i l. others i (omega arith)) (c-cancel-right (others n (lt-suc-self n) (omega arith)) all))
-      (eq-or-lt-of-le (le-of-suc-le-suc h))

@@ -3,9 +3,9 @@ use Prim.Native.Nat.{ℕ, _+_, _%_, _<_}
 use mathlib.Core.Path.{_≡_, sym, ap, ap₂, _∙_}
 use native.Mathlib.Nat.{zero-mod}
 use native.Mathlib.Numerals.{add-one}
-use Rattle.arithmetic.specs.Field.{residue}
-use Rattle.arithmetic.proofs.Congruence.{c-refl, c-add, of-rem, to-mod, residue-mod}
-use Rattle.secrecy.specs.Counts.{sumTo}
+use Rattle.residues.specs.Field.{residue}
+use Rattle.residues.proofs.Congruence.{c-refl, c-add, of-rem, to-mod, residue-mod}
+use Rattle.lists.specs.Sums.{sumTo}
 
 module _ (q : ℕ) (f : ℕ → ℕ) where
   pub kept-none : 0 ≡ sumTo 0 f % q

@@ -7,7 +7,7 @@ use native.Mathlib.Nat.{zero-mul, mul-le-mul, not-suc-le-zero, eq-or-lt-of-le, l
 use native.Mathlib.Omega.{arith}
 use lib.ListN.{length, take, drop, length-append, length-drop}
 use lib.Seq.{take-all, take-append-le, drop-append-le, drop-at}
-use Rattle.secrecy.specs.Lists.{joinTo}
+use Rattle.lists.specs.Lists.{joinTo}
 
 module _ (L : ℕ) (g : ℕ → List ℕ) (each : (i : ℕ) → length (g i) ≡ L) where
   pub length-join : (n : ℕ) → length (joinTo n g) ≡ n * L

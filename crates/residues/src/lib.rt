@@ -1,0 +1,1 @@
+// Numbers modulo q, and primes: definitions and laws alone. There is no code to run.
