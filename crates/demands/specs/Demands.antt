@@ -1,7 +1,7 @@
--- Demands 2 and 3, sentence by sentence; demand 1 is the promises. A statement is a type, and proofs/Demands has a proof of each. The promises name the same definitions:
--- the vet's answer is `verdict`, an upload `uploadOf`, a round after some calls `runOf` or `relayRun`, and so on. What stands in quotation marks is the papers',
--- letter by letter: the customer's demands, and document 01. The papers' meter, gateway and desk are our user, relay and server; gang, watcher and sight are
--- coalition, observer and view; key block and key tape are source key and key stream.
+-- Demands 2 and 3, sentence by sentence; demand 1 is the promises. A statement is a type, and proofs/Demands has a proof of each. The promises name the same
+-- definitions: the vet's answer is `verdict`, an upload `uploadOf`, a round after some calls `runOf` or `relayRun`, and so on. What stands in quotation marks is
+-- the papers', letter by letter: the customer's demands, and document 01. The papers' meter, gateway and desk are our user, relay and server; gang, watcher and
+-- sight are coalition, observer and view; key block and key tape are source key and key stream.
 use Prim.Native.Nat.{ℕ, suc, _+_, _-_, _*_, _%_, _≤_, _<_}
 use mathlib.Core.Path.{_≡_}
 use mathlib.Core.Logic.{_↔_}
@@ -71,8 +71,8 @@ module _ (P : Plan) (K : List ℕ) (L : ℕ) (W N : List ℕ) where
     abbrev pub countedOf : ℕ → ℕ → List Event → List Frame
     countedOf u first events = framesOf round (logOf (relayOpening u first) events .counted)
 
-    -- Relay u is opened in some round, and any events come, in any order, until it is in this one. Of the frames of this round that it counted, each carries its
-    -- sender's upload, and everyone's is among them. Nothing is asked of the frames that it did not count.
+    -- Relay u is opened in some round, and any events come, in any order, until it is in this one. Of the frames of this round that it counted, each carries
+    -- its sender's upload, and everyone's is among them. Nothing is asked of the frames that it did not count.
     pub record Reached (u first : ℕ) (events : List Event) : Type 0 where
       pub reached : logOf (relayOpening u first) events .number ≡ round
       pub uploads : Heard (P .size) (sent u) (countedOf u first events)
@@ -89,8 +89,8 @@ module _ (P : Plan) (K : List ℕ) (L : ℕ) (W N : List ℕ) where
     abbrev pub relayed : (ℕ → ℕ) → (ℕ → List Event) → ℕ → List ℕ
     relayed first events s = take L (relayRun (relayOpening (s - 1) (first (s - 1))) (events (s - 1)) .round .sums)
 
-    -- each relay reaches this round so, and the server, opened in it, gets any frames, in any order; those that it counted carry what the relays hold, and every
-    -- relay's is among them
+    -- each relay reaches this round so, and the server, opened in it, gets any frames, in any order; those that it counted carry what the relays hold, and
+    -- every relay's is among them
     pub record AllHeard (first : ℕ → ℕ) (events : ℕ → List Event) (frames : List Frame) : Type 0 where
       pub relays : (u : ℕ) → u < P .clusters → Reached u (first u) (events u)
       pub sums : Heard (P .clusters) (relayed first events) (ledgerOf (P .clusters) true opening [] frames)

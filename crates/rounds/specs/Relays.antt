@@ -1,5 +1,6 @@
--- A relay's round (document 01: gateway). It hears the V users of its cluster, which is one of 1 to U, and request Q-6 lets it hear the next round too: what it holds for r + 1 is a second roll and second sums, which are a round of their own, `aheadOf`. So all that Rounds says of a round is said of
--- both, and this page adds which of the two a frame is for, and what moving on does.
+-- A relay's round (document 01: gateway). It hears the V users of its cluster, which is one of 1 to U, and request Q-6 lets it hear the next round too: what
+-- it holds for r + 1 is a second roll and second sums, which are a round of their own, `aheadOf`. So all that Rounds says of a round is said of both, and this
+-- page adds which of the two a frame is for, and what moving on does.
 use Prim.Native.Nat.{ℕ, _+_, _^_}
 use mathlib.Core.Bool.{Bool, cond, not, _&&_, _||_}
 use mathlib.Core.List.{List, [], _∷_, _++_}
