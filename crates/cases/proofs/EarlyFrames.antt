@@ -64,13 +64,15 @@ pub last : relayAnswers (relayRound 1 (opened 2 2 5 1 4294967295) nothing) (move
 unfolding relayAnswers tab isPrime allTo allBelow hasBit named bitsOf countedAt
 last = refl
 
-pub last-but-one : relayAnswers (relayRound 1 (opened 2 1 5 1 4294967294) nothing) (heard (frame 1 4294967294 (1 ∷ [])) ∷ heard (frame 1 4294967295 (2 ∷ [])) ∷ moves ∷ moves ∷ asks (0 ∷ []) ∷ [])
+pub last-but-one : relayAnswers (relayRound 1 (opened 2 1 5 1 4294967294) nothing)
+    (heard (frame 1 4294967294 (1 ∷ [])) ∷ heard (frame 1 4294967295 (2 ∷ [])) ∷ moves ∷ moves ∷ asks (0 ∷ []) ∷ [])
     ≡ (accepted, []) ∷ (accepted, []) ∷ (accepted, []) ∷ (code 14, []) ∷ (accepted, 2 ∷ []) ∷ []
 unfolding relayAnswers tab isPrime allTo allBelow hasBit named bitsOf countedAt
 last-but-one = refl
 
 -- a state that is handed in: 8 for a bit of the second roll comes before 3 for the first sums
-pub second-roll-first : relayAnswers (relayRound 1 (record { clusters = 2; size = 2; q = 5; length = 1; number = 8; reported = 0; sums = 9 ∷ [] }) (held 4 [])) (moves ∷ [])
+pub second-roll-first : relayAnswers (relayRound 1 (record { clusters = 2; size = 2; q = 5; length = 1; number = 8; reported = 0; sums = 9 ∷ [] }) (held 4 []))
+    (moves ∷ [])
     ≡ (code 8, []) ∷ []
 unfolding relayAnswers tab isPrime allTo allBelow hasBit named bitsOf countedAt
 second-roll-first = refl

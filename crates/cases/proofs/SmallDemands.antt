@@ -13,11 +13,11 @@ use Rattle.lists.specs.Lists.{tab}
 use Rattle.lists.specs.Sums.{sumTo}
 use Rattle.lists.specs.Bits.{hasBit}
 use Rattle.secrecy.specs.Model.{columnSum, view, reading, key, upload, total}
-use Rattle.secrecy.specs.Leaks.{number, Symbols, Agrees, PairLeak}
+use Rattle.secrecy.specs.Leaks.{keysShowing, Symbols, Agrees, PairLeak, longest}
 use Rattle.plans.specs.Plans.{plan}
 use Rattle.vetting.specs.Pools.{poolOf}
 use Rattle.vetting.specs.Walk.{InWalk}
-use Rattle.vetting.specs.Verdict.{otherChecks}
+use Rattle.vetting.specs.Vet.{otherChecks}
 use Rattle.rounds.specs.Ledger.{Frame, frame, named, bitsOf, countedAt, framesOf}
 use Rattle.rounds.specs.Rounds.{opened, openRound, sumsAfter, runOf, ledgerOf, serverRound, serverAnswers}
 use Rattle.rounds.specs.Relays.{relayOpened, relaySums, Event, heard, moves, relayAnswers, relayRun, logAfter}
@@ -26,9 +26,9 @@ use Rattle.demands.proofs.Demands.{zero-sum, total-is-sum, equal-numbers, names
 use Rattle.cases.proofs.SmallPool.{rows, N, W, accepts, leaks-to-two}
 
 -- any coalition of at most one user, any observer, any readings that may not be told apart, any view
-pub hides : (g w : ℕ) → InWalk (plan 2 2 1 3 5) g w → (L : ℕ) → 1 ≤ L → L ≤ 64
+pub hides : (g w : ℕ) → InWalk (plan 2 2 1 3 5) g w → (L : ℕ) → 1 ≤ L → L ≤ longest
     → (W W′ : List ℕ) → Symbols 5 4 L W → Symbols 5 4 L W′ → Agrees (poolOf (plan 2 2 1 3 5) rows) g w L W W′
-    → (s : List ℕ) → number 5 3 (view (poolOf (plan 2 2 1 3 5) rows) g w) L W s ≡ number 5 3 (view (poolOf (plan 2 2 1 3 5) rows) g w) L W′ s
+    → (s : List ℕ) → keysShowing 5 3 (view (poolOf (plan 2 2 1 3 5) rows) g w) L W s ≡ keysShowing 5 3 (view (poolOf (plan 2 2 1 3 5) rows) g w) L W′ s
 hides = equal-numbers (plan 2 2 1 3 5) rows (sym accepts)
 
 -- with coalitions of two the table passes every check but 7
@@ -41,7 +41,8 @@ pub leak : PairLeak (poolOf (plan 2 2 2 3 5) rows) 3 2
 leak = names-first (plan 2 2 2 3 5) rows passes (record { coalition = 3; observer = 2 }) .0 leaks-to-two .here
 
 -- ---- demand 2: round 9, the users' uploads 4, 1 and 2, 2, the relays' sums 0 and 4, each time the second sender first. Relay 1 is opened in round 8, where
--- its first user is a round ahead; a frame that repeats it with another block is refused with 11, and nothing is asked of that block. So is one into the server.
+-- its first user is a round ahead; a frame that repeats it with another block is refused with 11, and nothing is asked of that block. So is one into the
+-- server.
 
 pub first : ℕ → ℕ
 first zero = 8

@@ -9,7 +9,8 @@ use Rattle.rounds.proofs.Runs.{server-run, server-answers}
 use Rattle.records.proofs.RecordChecks.{writable}
 use Rattle.records.proofs.RecordLaws.{write-read, written-accepted, one-record}
 use Rattle.streams.proofs.StreamLaws.{draws-give, draws-counted, draws-placed, draws-disjoint}
-use Rattle.demands.specs.Demands.{KeysAre, UploadsAre, RelaySumsAre, TotalIs, TotalIsSum, AcceptedIsZeroSum, Unmasks, EqualNumbers, RefusedIffLeaks, NamesFirst}
+use Rattle.demands.specs.Demands.{KeysAre, UploadsAre, RelaySumsAre, TotalIs, TotalIsSum, AcceptedIsZeroSum, Unmasks, EqualNumbers, RefusedIffLeaks}
+use Rattle.demands.specs.Demands.{NamesFirst}
 use Rattle.demands.specs.Demands.{CallsAreRuns, AnswersAsLedger, WrittenIsRead, OneRecord, DrawnOnce}
 use Rattle.demands.proofs.Totals.{relay-sums, server-sums, readings-to-total}
 use Rattle.demands.proofs.Equations.{keys-are, sent-is, accepted-zero-sum}
@@ -69,4 +70,10 @@ pub record-is-one : OneRecord
 record-is-one = one-record
 
 pub drawn-once : DrawnOnce
-drawn-once stream position draws = (draws-give stream position draws, draws-counted stream position draws, draws-placed stream position draws, draws-disjoint stream position draws)
+drawn-once stream position draws = (
+  draws-give stream position draws,
+  draws-counted stream position draws,
+  draws-placed stream position draws,
+  draws-disjoint
+      stream position draws,
+)

@@ -10,11 +10,10 @@ use Rattle.refusals.specs.declared.Code.{Code}
 use Rattle.refusals.specs.Codes.{code, firstOf, ifAccepted}
 use Rattle.residues.specs.Primes.{isPrime}
 use Rattle.lists.proofs.Searches.{T→true, true→T, T-and}
-use Rattle.plans.specs.Plans.{countsFit, lengthFits}
 use Rattle.rounds.specs.declared.Round.{Round}
 use Rattle.rounds.specs.declared.RelayRound.{RelayRound}
 use Rattle.rounds.specs.Ledger.{Frame}
-use Rattle.rounds.specs.Rounds.{after, sumsFit, stateChecks, ownChecks, lentChecks, stepCode, stepped, giveCode, sumsAfter}
+use Rattle.rounds.specs.Rounds.{openChecks, after, sumsFit, stateChecks, ownChecks, lentChecks, stepCode, stepped, giveCode, sumsAfter}
 use Rattle.rounds.specs.Relays.{relayRound, heldOf, aheadOf, relayKnown, relayChecks, isNext, relayCode, relayNext, relayGiveCode, relaySums, Event}
 use Rattle.rounds.proofs.RelayLedger.{relay-ledger}
 use Rattle.rounds.proofs.RelaySums.{relay-give-code, relay-sums-sorted, ahead-sorted, tidy-counted}
@@ -41,12 +40,7 @@ module _ (R : RelayRound) where
   -- the checks of the state, with what is found of the rolls and of the sums, before others
   abbrev checks : Bool → Bool → List (Bool × Code) → List (Bool × Code)
   checks rolls rows rest =
-      (not (countsFit (R .round .clusters) (R .round .size) 0), code 1)
-      ∷ (not (isPrime (R .round .q)), code 2)
-      ∷ (not (lengthFits (R .round .length)), code 9)
-      ∷ (not (known && rolls), code 8)
-      ∷ (not rows, code 3)
-      ∷ rest
+      openChecks (R .round .clusters) (R .round .size) (R .round .q) (R .round .length) known ++ (not rolls, code 8) ∷ (not rows, code 3) ∷ rest
 
   -- where q is no prime, rolls and sums are not looked at
   same-checks : (rolls rows rolls′ rows′ : Bool) (rest : List (Bool × Code))

@@ -92,11 +92,14 @@ module _ (P : Plan) (K : List ℕ) (L : ℕ) (W N : List ℕ) (round : ℕ) wher
   -- from the uploads to the total: whatever else came, and in whatever order, the server gives out the sums of the relay sums
   pub server-sums : TotalIs P K L W N round
   server-sums pass first events frames heard out room =
-      let (told, given) = full-given (P .clusters) true (P .clusters) (P .size) (P .q) L round pass frames (relayed P K L W N round first events) (heard .sums) out room in (
+      let (told, given) = full-given (P .clusters) true (P .clusters) (P .size) (P .q) L round pass frames (relayed P K L W N round first events)
+      (heard .sums) out room in (
         told,
         given
-            ∙ tab-cong L (λ p. sumTo (P .clusters) (λ u. at (relayed P K L W N round first events (suc u)) p) % P .q) (λ p. sumTo (P .clusters) (λ u. relaySum (poolOf P K) L W N u p) % P .q)
-            (λ p h. ap (λ (z : ℕ). z % P .q) (sum-cong (P .clusters) (λ u. at (relayed P K L W N round first events (suc u)) p) (λ u. relaySum (poolOf P K) L W N u p) (λ u l. each u p l h))),
+            ∙ tab-cong L (λ p. sumTo (P .clusters) (λ u. at (relayed P K L W N round first events (suc u)) p) % P .q)
+            (λ p. sumTo (P .clusters) (λ u. relaySum (poolOf P K) L W N u p) % P .q)
+            (λ p h. ap (λ (z : ℕ). z % P .q) (sum-cong (P .clusters) (λ u. at (relayed P K L W N round first events (suc u)) p)
+            (λ u. relaySum (poolOf P K) L W N u p) (λ u l. each u p l h))),
       )
     where
       listed : (u : ℕ) → u < P .clusters → oneOf (P .clusters) (suc u) ≡ true
@@ -109,12 +112,16 @@ module _ (P : Plan) (K : List ℕ) (L : ℕ) (W N : List ℕ) (round : ℕ) wher
       each u p l h =
           ap (λ (w : ℕ). at (take L (relayRun (relay w (first w)) (events w) .round .sums)) p) (omega arith)
           ∙ ap (λ (z : List ℕ). at z p)
-          (relay-heard (P .clusters) (P .size) (P .q) L (suc u) (first u) (opened-as u l) (events u) (blocks u) (uploads-now u (first u) (events u) (heard .relays u l)))
+          (relay-heard (P .clusters) (P .size) (P .q) L (suc u) (first u) (opened-as u l) (events u) (blocks u)
+          (uploads-now u (first u) (events u) (heard .relays u l)))
           ∙ at-tab L (block u) p h
           ∙ uploads-add u p h
 
   -- and with a zero-sum table these are the totals of the readings
   pub readings-to-total : TotalIsSum P K L W N round
   readings-to-total zs pass first events frames heard out room =
-      let (told, given) = server-sums pass first events frames heard out room in
-      (told, given ∙ tab-cong L (λ p. sumTo (P .clusters) (λ u. relaySum (poolOf P K) L W N u p) % P .q) (total (poolOf P K) L W) (λ p h. relays-total (poolOf P K) L W N zs p))
+      let (told, given) = server-sums pass first events frames heard out room in (
+        told,
+        given ∙ tab-cong L (λ p. sumTo (P .clusters) (λ u. relaySum (poolOf P K) L W N u p) % P .q) (total (poolOf P K) L W)
+            (λ p h. relays-total (poolOf P K) L W N zs p),
+      )

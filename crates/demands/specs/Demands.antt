@@ -1,5 +1,5 @@
 -- Demands 2 and 3, sentence by sentence; demand 1 is the promises. A statement is a type, and proofs/Demands has a proof of each. The promises name the same
--- definitions: the vet's answer is `verdict`, an upload `uploadOf`, a round after some calls `runOf` or `relayRun`, and so on. What stands in quotation marks is
+-- definitions: the vet's answer is `vetCode`, an upload `uploadOf`, a round after some calls `runOf` or `relayRun`, and so on. In quotation marks is
 -- the papers', letter by letter: the customer's demands, and document 01. The papers' meter, gateway and desk are our user, relay and server; gang, watcher and
 -- sight are coalition, observer and view; key block and key tape are source key and key stream.
 use Prim.Native.Nat.{ℕ, suc, _+_, _-_, _*_, _%_, _≤_, _<_}
@@ -12,13 +12,13 @@ use Rattle.refusals.specs.Codes.{accepted, firstOf, ifAccepted}
 use Rattle.lists.specs.Lists.{at, tab}
 use Rattle.lists.specs.Sums.{sumTo}
 use Rattle.secrecy.specs.Model.{Pool, reading, key, upload, relaySum, total, ZeroSum, view}
-use Rattle.secrecy.specs.Leaks.{number, Symbols, Agrees, PairLeak}
+use Rattle.secrecy.specs.Leaks.{keysShowing, Symbols, Agrees, PairLeak, longest}
 use Rattle.plans.specs.declared.Plan.{Plan}
-use Rattle.plans.specs.Plans.{usersOf}
+use Rattle.plans.specs.Plans.{usersOf, maxLength}
 use Rattle.vetting.specs.Pools.{poolOf}
 use Rattle.vetting.specs.declared.Pair.{Pair}
 use Rattle.vetting.specs.Walk.{pairs, InWalk, First}
-use Rattle.vetting.specs.Verdict.{otherChecks, verdict}
+use Rattle.vetting.specs.Vet.{otherChecks, vetCode}
 use Rattle.keys.specs.Keys.{keysOf}
 use Rattle.masking.specs.Blocks.{uploadOf, blockCode, unmaskAfter}
 use Rattle.rounds.specs.declared.Round.{Round}
@@ -28,7 +28,7 @@ use Rattle.rounds.specs.Ledger.{Frame, framesOf, Heard}
 use Rattle.rounds.specs.Rounds.{oneOf, openChecks, opened, stateChecks, after, giveCode, sumsAfter, answersOf, runOf}
 use Rattle.rounds.specs.Rounds.{ledgerAnswers, ledgerOf, ledgerGiveCode, ledgerSums, serverRound, serverRun, serverAnswers}
 use Rattle.rounds.specs.Relays.{relayRound, nothing, relayGiveCode, relaySums, Event, relayRun, logOf}
-use Rattle.records.specs.Records.{recordOf, planRead, tableRead, start, readVerdict, writeVerdict}
+use Rattle.records.specs.Records.{recordOf, planRead, tableRead, start, readCode, writeCode}
 use Rattle.streams.specs.Streams.{drawn, positionAfterAll, symbolsDrawn, placesDrawn}
 
 -- ---- demand 2: a plan P with key table K, blocks of L symbols, readings W, a source key (document 01: key block) N
@@ -117,7 +117,7 @@ module _ (P : Plan) (K : List ℕ) (L : ℕ) (W N : List ℕ) where
 
 -- the key table of a plan that the vet accepts is a zero-sum table
 abbrev pub AcceptedIsZeroSum : Type 0
-AcceptedIsZeroSum = (P : Plan) (K : List ℕ) → accepted ≡ verdict P K → ZeroSum (poolOf P K)
+AcceptedIsZeroSum = (P : Plan) (K : List ℕ) → accepted ≡ vetCode P K → ZeroSum (poolOf P K)
 
 -- "taking a key off its upload gives the reading back." Where a block W and a key Z are uploaded, taking the key off what is sent is not refused, and writes W:
 abbrev pub Unmasks : Type 0
@@ -133,26 +133,26 @@ module _ (P : Plan) (K : List ℕ) where
   -- show the watcher that sight in a round."
   abbrev pub EqualNumbers : Type 0
   EqualNumbers =
-      accepted ≡ verdict P K
+      accepted ≡ vetCode P K
       → (g w : ℕ) → InWalk P g w
-      → (L : ℕ) → 1 ≤ L → L ≤ 64
+      → (L : ℕ) → 1 ≤ L → L ≤ longest
       → (W W′ : List ℕ) → Symbols (P .q) (usersOf P) L W → Symbols (P .q) (usersOf P) L W′ → Agrees (poolOf P K) g w L W W′
       → (s : List ℕ)
-      → number (P .q) (P .rate) (view (poolOf P K) g w) L W s ≡ number (P .q) (P .rate) (view (poolOf P K) g w) L W′ s
+      → keysShowing (P .q) (P .rate) (view (poolOf P K) g w) L W s ≡ keysShowing (P .q) (P .rate) (view (poolOf P K) g w) L W′ s
 
   -- "A plan that passes the other checks is refused as leaking exactly when, for some gang, watcher and block length, some such pair of sets has unequal
   -- numbers for some sight"
   abbrev pub RefusedIffLeaks : Type 0
   RefusedIffLeaks =
       accepted ≡ firstOf (otherChecks P K)
-      → _≡_ {A = ℕ} (verdict P K .number) 7 ↔ ((g : ℕ) × (w : ℕ) × InWalk P g w × PairLeak (poolOf P K) g w)
+      → _≡_ {A = ℕ} (vetCode P K .number) 7 ↔ ((g : ℕ) × (w : ℕ) × InWalk P g w × PairLeak (poolOf P K) g w)
 
   -- "the refusal names the first gang and watcher for which that is so."
   abbrev pub NamesFirst : Type 0
   NamesFirst =
       accepted ≡ firstOf (otherChecks P K)
       → (p : Pair)
-      → (verdict P K ≡ record { number = 7; first = p .coalition; second = p .observer })
+      → (vetCode P K ≡ record { number = 7; first = p .coalition; second = p .observer })
       ↔ First (λ p. PairLeak (poolOf P K) (p .coalition) (p .observer)) (pairs (P .clusters) (P .size) (P .limit)) p
 
 -- ---- rounds, records and key streams
@@ -169,7 +169,7 @@ CallsAreRuns =
 -- moves on, NextRound says it
 abbrev pub AnswersAsLedger : Type 0
 AnswersAsLedger =
-    (senders : ℕ) (known : Bool) (R : Round) → length (R .sums) ≡ 64 → (frames : List Frame)
+    (senders : ℕ) (known : Bool) (R : Round) → length (R .sums) ≡ maxLength → (frames : List Frame)
     → (answersOf senders known R frames ≡ ledgerAnswers senders known R [] frames)
     × (runOf senders known R frames ≡ ifAccepted (firstOf (stateChecks senders known R)) (after R (ledgerOf senders known R [] frames)) R)
     × ((out : List ℕ)
@@ -179,14 +179,14 @@ AnswersAsLedger =
 -- "writing then reading returns the plan": whatever stands before the record
 abbrev pub WrittenIsRead : Type 0
 WrittenIsRead =
-    (before : List ℕ) (P : Plan) (K out lent : List ℕ) → accepted ≡ writeVerdict P K out → length lent ≡ 256
-    → (accepted ≡ readVerdict (before ++ recordOf P K) lent) × (planRead (before ++ recordOf P K) ≡ P) × (tableRead (before ++ recordOf P K) ≡ K)
+    (before : List ℕ) (P : Plan) (K out lent : List ℕ) → accepted ≡ writeCode P K out → length lent ≡ 256
+    → (accepted ≡ readCode (before ++ recordOf P K) lent) × (planRead (before ++ recordOf P K) ≡ P) × (tableRead (before ++ recordOf P K) ≡ K)
 
 -- "Each plan has one record": the bytes from the first on are the same
 abbrev pub OneRecord : Type 0
 OneRecord =
     (B C lent : List ℕ) → ((i : ℕ) → at B i < 256) → ((i : ℕ) → at C i < 256)
-    → accepted ≡ readVerdict B lent → accepted ≡ readVerdict C lent
+    → accepted ≡ readCode B lent → accepted ≡ readCode C lent
     → planRead B ≡ planRead C → tableRead B ≡ tableRead C
     → drop (start B) B ≡ drop (start C) C
 

@@ -15,6 +15,7 @@ use Rattle.rounds.specs.Ledger.{Frame, named, countedAt, framesOf, everyone, Ca
 use Rattle.rounds.specs.Rounds.{oneOf, openChecks, opened, sumsFit, stepCode, stepped, giveCode, sumsAfter}
 use Rattle.rounds.specs.Relays.{relayRound, heldOf, nothing, aheadOf, relayKnown, relayChecks, isNext, relayCode, relayNext, relayGiveCode, relaySums}
 use Rattle.rounds.specs.Relays.{Event, relayAnswers, relayRun, log, relayAt, logAnswers, logOf}
+use Rattle.plans.specs.Plans.{maxLength}
 
 -- do the roll and the sums of one of a relay's two rounds pass their checks, 8 and 3?
 abbrev pub holdsFit : Round → Bool
@@ -44,7 +45,7 @@ CountedAhead =
 -- is written into lent buffers, and the round after them are those of a log of the frames counted, each with its round's number
 abbrev pub AnswersAsLog : Type 0
 AnswersAsLog =
-    (R : RelayRound) → length (R .round .sums) ≡ 64 → length (R .ahead .sums) ≡ 64 → (events : List Event)
+    (R : RelayRound) → length (R .round .sums) ≡ maxLength → length (R .ahead .sums) ≡ maxLength → (events : List Event)
     → (relayAnswers R events ≡ logAnswers R (log (R .round .number) []) events)
     × (relayRun R events ≡ ifAccepted (firstOf (relayChecks R)) (relayAt R (logOf R events)) R)
 

@@ -3,7 +3,7 @@ ghost use mathlib.Core.Path.{_≡_};
 ghost use Prim.Native.Nat.{_<_};
 ghost use lib.ListN.{length};
 ghost use Rattle.plans.specs.Plans.{plan, plannedCode};
-ghost use Rattle.vetting.specs.Verdict.{verdict};
+ghost use Rattle.vetting.specs.Vet.{vetCode};
 ghost use Rattle.keys.specs.Maker.{makerCode, makerTable};
 ghost use Rattle.keys.specs.Keys.{keyCode, keysAfter};
 ghost use Rattle.masking.specs.Blocks.{blockCode, uploadAfter, unmaskAfter};
@@ -52,7 +52,7 @@ pub extern "C" fn kortyghai_vet(
     q: Symbol,
     table: &[Symbol],
 ) -> u64
-    ensures { λ r. ⌜ r ≡ packed (verdict (plan clusters size limit rate q) (now (table .entry))) ⌝ }
+    ensures { λ r. ⌜ r ≡ packed (vetCode (plan clusters size limit rate q) (now (table .entry))) ⌝ }
 {
     let plan = Plan {
         clusters,
@@ -148,9 +148,9 @@ pub extern "C" fn kortyghai_count_frame(
     cluster: usize,
     number: u32,
     reported: &mut u16,
-    sums: &mut [Symbol; 64],
+    sums: &mut [Symbol; Plan::MAX_LENGTH],
     ahead: &mut u16,
-    held: &mut [Symbol; 64],
+    held: &mut [Symbol; Plan::MAX_LENGTH],
     sender: usize,
     said: u32,
     block: &[Symbol],
@@ -215,22 +215,27 @@ pub extern "C" fn kortyghai_advance(
     cluster: usize,
     number: &mut u32,
     reported: &mut u16,
-    sums: &mut [Symbol; 64],
+    sums: &mut [Symbol; Plan::MAX_LENGTH],
     ahead: &mut u16,
-    held: &mut [Symbol; 64],
+    held: &mut [Symbol; Plan::MAX_LENGTH],
 ) -> u64
     ensures answer { λ r. ⌜ r ≡ packed (moveCode
         (stateOf clusters size q length cluster (now (number .entry)) (now (reported .entry)) (now (sums .entry)) (now (ahead .entry)) (now (held .entry)))) ⌝ }
     ensures round { λ _. ⌜ now (number .exit) ≡ moved
-        (stateOf clusters size q length cluster (now (number .entry)) (now (reported .entry)) (now (sums .entry)) (now (ahead .entry)) (now (held .entry))) .round .number ⌝ }
+        (stateOf clusters size q length cluster (now (number .entry)) (now (reported .entry)) (now (sums .entry)) (now (ahead .entry)) (now (held .entry)))
+        .round .number ⌝ }
     ensures bits { λ _. ⌜ now (reported .exit) ≡ moved
-        (stateOf clusters size q length cluster (now (number .entry)) (now (reported .entry)) (now (sums .entry)) (now (ahead .entry)) (now (held .entry))) .round .reported ⌝ }
+        (stateOf clusters size q length cluster (now (number .entry)) (now (reported .entry)) (now (sums .entry)) (now (ahead .entry)) (now (held .entry)))
+        .round .reported ⌝ }
     ensures totals { λ _. ⌜ now (sums .exit) ≡ moved
-        (stateOf clusters size q length cluster (now (number .entry)) (now (reported .entry)) (now (sums .entry)) (now (ahead .entry)) (now (held .entry))) .round .sums ⌝ }
+        (stateOf clusters size q length cluster (now (number .entry)) (now (reported .entry)) (now (sums .entry)) (now (ahead .entry)) (now (held .entry)))
+        .round .sums ⌝ }
     ensures early { λ _. ⌜ now (ahead .exit) ≡ moved
-        (stateOf clusters size q length cluster (now (number .entry)) (now (reported .entry)) (now (sums .entry)) (now (ahead .entry)) (now (held .entry))) .ahead .reported ⌝ }
+        (stateOf clusters size q length cluster (now (number .entry)) (now (reported .entry)) (now (sums .entry)) (now (ahead .entry)) (now (held .entry)))
+        .ahead .reported ⌝ }
     ensures kept { λ _. ⌜ now (held .exit) ≡ moved
-        (stateOf clusters size q length cluster (now (number .entry)) (now (reported .entry)) (now (sums .entry)) (now (ahead .entry)) (now (held .entry))) .ahead .sums ⌝ }
+        (stateOf clusters size q length cluster (now (number .entry)) (now (reported .entry)) (now (sums .entry)) (now (ahead .entry)) (now (held .entry)))
+        .ahead .sums ⌝ }
 {
     let before = *sums;
     let second = *held;
@@ -278,9 +283,9 @@ pub extern "C" fn kortyghai_give_sums(
     cluster: usize,
     number: u32,
     reported: u16,
-    sums: &[Symbol; 64],
+    sums: &[Symbol; Plan::MAX_LENGTH],
     ahead: u16,
-    held: &[Symbol; 64],
+    held: &[Symbol; Plan::MAX_LENGTH],
     out: &mut [Symbol],
 ) -> u64
     ensures code { λ r. ⌜ r ≡ packed (relayGiveCode

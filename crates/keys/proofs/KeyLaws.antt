@@ -20,7 +20,7 @@ use Rattle.lists.proofs.ListLaws.{at-tab, length-tab, tab-cong}
 use Rattle.plans.specs.declared.Plan.{Plan}
 use Rattle.plans.specs.Plans.{usersOf, lengthFits}
 use Rattle.vetting.specs.Pools.{poolOf}
-use Rattle.vetting.specs.Verdict.{vetChecks}
+use Rattle.vetting.specs.Vet.{vetChecks}
 use Rattle.keys.specs.Keys.{keysOf, keyChecks}
 use Rattle.refusals.proofs.Orders.{rest-decides, first-accepts}
 use Rattle.vetting.proofs.PlanLaws.{Vetted, vetted, vet-numbered}
@@ -52,7 +52,8 @@ module _ (q n R L : ℕ) (K N : List ℕ) where
   -- what user i's row alone makes of N, w symbols of K, is the part of the keys that is lent for it, v symbols of T
   pub keys-of-row : (T : List ℕ) (i w v : ℕ) → w ≡ R → v ≡ L → i < n → i * R + R ≤ length K → i * L + L ≤ length T
       → (let row : List ℕ = take w (drop (i * R) K) in
-      tab (length (take v (drop (i * L) T))) (λ p. sumTo (length row) (λ k. at row k * at N (p * length row + k)) % q) ≡ take v (drop (i * L) (keyRows q n R L K N)))
+      tab (length (take v (drop (i * L) T))) (λ p. sumTo (length row) (λ k. at row k * at N (p * length row + k)) % q) ≡ take v
+      (drop (i * L) (keyRows q n R L K N)))
   keys-of-row T i w v ew ev h k l =
       let row : List ℕ = take w (drop (i * R) K) in
       let size : length row ≡ R = length-part w (i * R) K (omega arith) ∙ ew in
@@ -98,7 +99,9 @@ module _ (P : Plan) (K : List ℕ) (L : ℕ) (N out : List ℕ) where
   derivable e =
       let v : accepted ≡ firstOf (vetChecks P K) = first-accepts (vetChecks P K) (blockChecks P L N out) (vet-numbered P K) e in
       let w = none-holds (blockChecks P L N out) tt (e ∙ sym (blocks-decide v)) in
-      let (source, room) = T-and (eqb (length N) (L * P .rate)) (eqb (length out) (usersOf P * L)) (true→T (eqb (length N) (L * P .rate) && eqb (length out) (usersOf P * L)) (not-false (eqb (length N) (L * P .rate) && eqb (length out) (usersOf P * L)) (w .1 .0))) in
+      let (source, room) = T-and (eqb (length N) (L * P .rate)) (eqb (length out) (usersOf P * L))
+      (true→T (eqb (length N) (L * P .rate) && eqb (length out) (usersOf P * L))
+      (not-false (eqb (length N) (L * P .rate) && eqb (length out) (usersOf P * L)) (w .1 .0))) in
       record { plan = vetted P K v; source = eqb→eq (length N) (L * P .rate) source; room = eqb→eq (length out) (usersOf P * L) room }
 
   -- after an acceptance the key of user i in position p stands at index i L + p of what the call leaves

@@ -28,7 +28,7 @@ use Rattle.plans.specs.declared.Plan.{Plan}
 use Rattle.plans.specs.Plans.{usersOf, countsFit, inBounds}
 use Rattle.vetting.specs.Pools.{poolOf}
 use Rattle.vetting.specs.Walk.{pairs}
-use Rattle.vetting.specs.Verdict.{columnCheck, leakCheck, otherChecks, vetChecks, verdict}
+use Rattle.vetting.specs.Vet.{columnCheck, leakCheck, otherChecks, vetChecks, vetCode}
 use Rattle.keys.specs.Maker.{rateOf, planOf, entry, lastEntry, madeTable, makerChecks}
 use Rattle.refusals.proofs.Orders.{none-decide, first-accepts}
 use Rattle.plans.proofs.PlanBounds.{Counts, counts-known, some-users, Bounds, bounds-known}
@@ -174,7 +174,8 @@ module _ (P : Plan) (γ : ℕ) (b : Bounds P) (p : Prime (P .q)) (e : P .rate �
       let n : ℕ = usersOf P * P .rate in
       ap (allBelow (P .q)) (sym made-is)
       ∙ T→true (allBelow (P .q) (tab n f))
-      (at-below (P .q) (tab n f) (λ i l. subst (λ (z : ℕ). z < P .q) (sym (at-tab n f i (omega (arith, length-tab n f)))) (cell-below (P .q) γ (usersOf P) (P .rate) i (p .two))))
+      (at-below (P .q) (tab n f) (λ i l. subst (λ (z : ℕ). z < P .q) (sym (at-tab n f i (omega (arith, length-tab n f))))
+      (cell-below (P .q) γ (usersOf P) (P .rate) i (p .two))))
 
   pub made-zero-sum : ZeroSum (poolOf P tableOf)
   unfolding columnSum
@@ -213,7 +214,7 @@ ownChecks u v t q γ out =
 
 module _ (u v t q γ : ℕ) (out : List ℕ) where
   -- where none of them refuses, the maker's code is the vet's
-  pub maker-vets : NoneHolds (ownChecks u v t q γ out) → firstOf (makerChecks u v t q γ out) ≡ verdict (planOf u v t q) (madeTable u v t q γ)
+  pub maker-vets : NoneHolds (ownChecks u v t q γ out) → firstOf (makerChecks u v t q γ out) ≡ vetCode (planOf u v t q) (madeTable u v t q γ)
   maker-vets n =
       let P : Plan = planOf u v t q in
       let walk : List (Bool × Code) = map (leakCheck P (madeTable u v t q γ)) (pairs u v t) in
@@ -222,7 +223,7 @@ module _ (u v t q γ : ℕ) (out : List ℕ) where
       ∙ sym (made-verdict P γ (bounds-known P within) (true-prime q (not-false (isPrime q) (n .1 .0))) refl within)
 
   -- so the vet accepts what the maker makes
-  pub made-vetted : accepted ≡ firstOf (makerChecks u v t q γ out) → accepted ≡ verdict (planOf u v t q) (madeTable u v t q γ)
+  pub made-vetted : accepted ≡ firstOf (makerChecks u v t q γ out) → accepted ≡ vetCode (planOf u v t q) (madeTable u v t q γ)
   made-vetted e =
       let walk : List (Bool × Code) = map (leakCheck (planOf u v t q) (madeTable u v t q γ)) (pairs u v t) in
       e ∙ maker-vets (none-holds (ownChecks u v t q γ out) tt (first-accepts (ownChecks u v t q γ out) walk tt e))

@@ -25,7 +25,8 @@ module _ (q γ rows cols : ℕ) where
   powerRows = tab (rows * cols) (λ x. entry q γ (x / cols) (x % cols))
 
   -- the powers of row i's symbol x are the part that is lent for it, w symbols of T
-  pub powers-part : (T : List ℕ) (i w x : ℕ) → w ≡ cols → 2 ≤ q → i < rows → i * cols + cols ≤ length T → i * cols + cols ≤ rows * cols → x ≡ cond (eqb i 0) 0 (powerOf q γ i)
+  pub powers-part : (T : List ℕ) (i w x : ℕ) → w ≡ cols → 2 ≤ q → i < rows → i * cols + cols ≤ length T → i * cols + cols ≤ rows * cols → x ≡ cond (eqb i 0) 0
+      (powerOf q γ i)
       → tab (length (take w (drop (i * cols) T))) (powerOf q x) ≡ take w (drop (i * cols) powerRows)
   powers-part T i w x ew two h fits inside ex =
       ap₂ (λ (m z : ℕ). tab m (powerOf q z)) (length-part w (i * cols) T (omega arith)) ex
@@ -65,7 +66,8 @@ module _ (q rows cols : ℕ) (T₀ : List ℕ) where
         ∙ at-tab cols minusSum k h
 
     -- while the last row is written, the columns above it stay
-    pub column-stays : (T : List ℕ) (n k : ℕ) → Front T₀ withLast T (rows * cols + n) → k < cols → sumTo rows (λ i. at T (i * cols + k)) ≡ sumTo rows (λ i. at T₀ (i * cols + k))
+    pub column-stays : (T : List ℕ) (n k : ℕ) → Front T₀ withLast T (rows * cols + n) → k < cols → sumTo rows (λ i. at T (i * cols + k)) ≡ sumTo rows
+        (λ i. at T₀ (i * cols + k))
     column-stays T n k f h =
         sum-cong rows (λ i. at T (i * cols + k)) (λ i. at T₀ (i * cols + k))
         (λ i l.

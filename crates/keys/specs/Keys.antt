@@ -12,7 +12,7 @@ use Rattle.secrecy.specs.Model.{key}
 use Rattle.plans.specs.declared.Plan.{Plan}
 use Rattle.plans.specs.Plans.{usersOf, lengthFits}
 use Rattle.vetting.specs.Pools.{poolOf}
-use Rattle.vetting.specs.Verdict.{vetChecks}
+use Rattle.vetting.specs.Vet.{vetChecks}
 
 -- user by user, L symbols each
 unfoldable pub keysOf : Plan → List ℕ → ℕ → List ℕ → List ℕ

@@ -13,7 +13,7 @@ use Rattle.lists.specs.Sums.{sumTo}
 use Rattle.plans.specs.declared.Plan.{Plan}
 use Rattle.plans.specs.Plans.{countsFit, noPlan}
 use Rattle.vetting.specs.Walk.{pairs}
-use Rattle.vetting.specs.Verdict.{leakCheck}
+use Rattle.vetting.specs.Vet.{leakCheck}
 
 -- R = max(V + T, min(U + T − 1, U × V − 1))
 abbrev pub rateOf : ℕ → ℕ → ℕ → ℕ

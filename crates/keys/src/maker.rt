@@ -12,7 +12,7 @@ ghost use Rattle.lists.specs.Lists.{at, tab};
 ghost use Rattle.lists.specs.Sums.{sumTo};
 ghost use Rattle.plans.specs.Plans.{usersOf, inBounds, noPlan, plannedCode, plannedPlan};
 ghost use Rattle.vetting.specs.Walk.{pairs};
-ghost use Rattle.vetting.specs.Verdict.{leakCheck};
+ghost use Rattle.vetting.specs.Vet.{leakCheck};
 ghost use Rattle.keys.specs.Maker.{rateOf, planOf, entry, madeTable, makerChecks, makerCode, makerPlan, makerTable};
 use arithmetic::Symbol;
 use arithmetic::is_prime;
@@ -24,6 +24,9 @@ use plans::counts_fit;
 use refusals::Refusal;
 use refusals::Verdict;
 use vetting::vet;
+
+// The largest table.
+const LARGEST: usize = Plan::MAX_USERS * Plan::MAX_RATE;
 
 // R, for counts within their bounds: what a relay asks, and what the server asks, which is never more than the users but one.
 fn rate_of(clusters: usize, size: usize, limit: usize) -> usize
@@ -155,7 +158,7 @@ fn write_table(plan: Plan, generator: Symbol, table: &mut [Symbol]) -> Verdict
         ≡ ifAccepted (verdictCode r) (madeTable (plan .clusters) (plan .size) (plan .limit) (plan .q) generator) (now (table .entry)) ⌝ }
 {
     let m = table.len();
-    let mut built = [0u16; 256];
+    let mut built = [0u16; LARGEST];
     write_vetted(plan, generator, &mut built[..m], table)
 }
 

@@ -3,7 +3,8 @@ use mathlib.Core.Path.{_≡_, refl, sym, ap, ap₂, _∙_, subst}
 use mathlib.Core.Bool.{Bool, true, false, cond, _&&_, and-false}
 use mathlib.Core.Logic.{_⊎_, inl, inr, ⊎-elim}
 use Prim.Native.Nat.{ℕ, zero, suc, _+_, _-_, _*_, _/_, _%_, _^_, _≤_, _<_}
-use native.Mathlib.Nat.{mod-eq-of-lt, mod-lt, mod-one, pow-suc, add-comm, add-zero, mul-comm, mul-assoc, one-mul, div-eq-of-lt, div-div-eq-div-mul, div-eq-of-lt-le, div-add-mod', add-mul-div-right, lt-of-lt-of-le}
+use native.Mathlib.Nat.{mod-eq-of-lt, mod-lt, mod-one, pow-suc, add-comm, add-zero, mul-comm, mul-assoc, one-mul, div-eq-of-lt, div-div-eq-div-mul}
+use native.Mathlib.Nat.{div-eq-of-lt-le, div-add-mod', add-mul-div-right, lt-of-lt-of-le}
 use native.Mathlib.Numerals.{one-add}
 use native.Mathlib.Decide.{ℕ-discrete, decLt}
 use native.Mathlib.Omega.{arith}
@@ -80,7 +81,8 @@ mask-under m k i h =
     let p : m * 2 ^ k ≡ m * 2 ^ (k - suc i) * 2 * 2 ^ i =
     ap (λ (z : ℕ). m * 2 ^ z) d ∙ ap (λ (z : ℕ). m * z) (pow-add 2 (suc (k - suc i)) i ∙ ap (λ (z : ℕ). z * 2 ^ i) (pow-suc 2 (k - suc i)))
     ∙ sym (mul-assoc m (2 ^ (k - suc i) * 2) (2 ^ i)) ∙ ap (λ (z : ℕ). z * 2 ^ i) (sym (mul-assoc m (2 ^ (k - suc i)) 2)) in
-    let z : m * 2 ^ k / 2 ^ i % 2 ≡ 0 = ap (λ (z : ℕ). z / 2 ^ i % 2) p ∙ ap (λ (z : ℕ). z % 2) (shl-shr (m * 2 ^ (k - suc i) * 2) i) ∙ even-twice (m * 2 ^ (k - suc i)) in
+    let z : m * 2 ^ k / 2 ^ i % 2 ≡ 0 = ap (λ (z : ℕ). z / 2 ^ i % 2) p ∙ ap (λ (z : ℕ). z % 2) (shl-shr (m * 2 ^ (k - suc i) * 2) i) ∙ even-twice
+    (m * 2 ^ (k - suc i)) in
     ap (λ (z : ℕ). eqb z 1) z
 
 -- from its place on
@@ -129,7 +131,8 @@ half-bound k n h =
 -- ---- numbers with the low digits cleared
 
 -- what is left without the lowest set digit is the number with all digits up to it cleared
-pub low-cleared : (k n : ℕ) → 0 < n → n < 2 ^ k → (2 ^ trailingZeros k n ≤ n) × (n - 2 ^ trailingZeros k n ≡ n / 2 ^ suc (trailingZeros k n) * 2 ^ suc (trailingZeros k n))
+pub low-cleared : (k n : ℕ) → 0 < n → n < 2 ^ k → (2 ^ trailingZeros k n ≤ n)
+    × (n - 2 ^ trailingZeros k n ≡ n / 2 ^ suc (trailingZeros k n) * 2 ^ suc (trailingZeros k n))
 unfolding trailingZeros
 low-cleared zero n p h = absurd (omega arith)
 low-cleared (suc k) n p h =

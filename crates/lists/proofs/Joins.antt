@@ -20,7 +20,8 @@ module _ (L : ℕ) (g : ℕ → List ℕ) (each : (i : ℕ) → length (g i) ≡
   join-part zero i h = absurd (not-suc-le-zero h)
   join-part (suc n) i h =
       ⊎-elim
-      (λ e. subst (λ (j : ℕ). take L (drop (j * L) (joinTo n g ++ g n)) ≡ g j) (sym e) (ap (take L) (drop-at (joinTo n g) (g n) (n * L) (length-join n)) ∙ take-all L (g n) (omega (arith, each n))))
+      (λ e. subst (λ (j : ℕ). take L (drop (j * L) (joinTo n g ++ g n)) ≡ g j) (sym e)
+      (ap (take L) (drop-at (joinTo n g) (g n) (n * L) (length-join n)) ∙ take-all L (g n) (omega (arith, each n))))
       (λ l.
       let m : suc i * L ≤ n * L = mul-le-mul {n₁ = suc i} {m₁ = L} {n₂ = n} {m₂ = L} l (omega arith) in
       ap (take L) (drop-append-le (i * L) (joinTo n g) (g n) (omega (arith, length-join n)))

@@ -37,7 +37,9 @@ pub record Fitting (q L : ℕ) (a b out : List ℕ) : Type 0 where
 pub fitting : (q L : ℕ) (a b out : List ℕ) → accepted ≡ firstOf (blockChecks q L a b out) → Fitting q L a b out
 fitting q L a b out e =
     let w = none-holds (blockChecks q L a b out) tt e in
-    let (both, room) = T-and (eqb (length a) L && eqb (length b) L) (eqb (length out) L) (true→T (eqb (length a) L && eqb (length b) L && eqb (length out) L) (not-false (eqb (length a) L && eqb (length b) L && eqb (length out) L) (w .1 .1 .0))) in
+    let (both, room) = T-and (eqb (length a) L && eqb (length b) L) (eqb (length out) L)
+    (true→T (eqb (length a) L && eqb (length b) L && eqb (length out) L) (not-false (eqb (length a) L && eqb (length b) L && eqb (length out) L) (w .1 .1 .0)))
+    in
     let (first, second) = T-and (eqb (length a) L) (eqb (length b) L) both in
     let (low, below) = T-and (allBelow q a) (allBelow q b) (true→T (allBelow q a && allBelow q b) (not-false (allBelow q a && allBelow q b) (w .1 .1 .1 .0))) in
     record {
@@ -56,7 +58,8 @@ writable q L a b out e =
     let f = fitting q L a b out e in
     (f .positive, f .first ∙ sym (f .room), f .second ∙ sym (f .room), f .first-below, f .second-below)
 
-pub written : (q L : ℕ) (a b out : List ℕ) (block : ℕ → List ℕ) → accepted ≡ firstOf (blockChecks q L a b out) → block (length out) ≡ ifAccepted (blockCode q L a b out) (block L) out
+pub written : (q L : ℕ) (a b out : List ℕ) (block : ℕ → List ℕ) → accepted ≡ firstOf (blockChecks q L a b out) → block (length out) ≡ ifAccepted
+    (blockCode q L a b out) (block L) out
 written q L a b out block e = filled (blockCode q L a b out) L block out (fitting q L a b out e .room) e
 
 -- ---- there and back

@@ -30,7 +30,8 @@ module _ (q rows cols : ℕ) where
   below-vectors U h (suc k) i l = rw (rows-from cols k i U) (h i (omega arith), below-vectors U h k (i + 1) (omega arith))
 
   -- the same combination of rows that have the same products has the same product
-  below-products : (T U M N : List ℕ) → ((j : ℕ) → j < rows → Cong q (dotN (rowOf cols U j) N) (dotN (rowOf cols T j) M)) → (cs : List ℕ) (k i : ℕ) → i + k ≤ rows
+  below-products : (T U M N : List ℕ) → ((j : ℕ) → j < rows → Cong q (dotN (rowOf cols U j) N) (dotN (rowOf cols T j) M)) → (cs : List ℕ) (k i : ℕ)
+      → i + k ≤ rows
       → Cong q (dotN cs (map (λ s. dotN s N) (below k i U))) (dotN cs (map (λ s. dotN s M) (below k i T)))
   below-products T U M N h [] k i l = c-refl
   below-products T U M N h (c ∷ cs) zero i l = rw (rows-none cols (drop (i * cols) U), rows-none cols (drop (i * cols) T)) c-refl
@@ -38,7 +39,8 @@ module _ (q rows cols : ℕ) where
       rw (rows-from cols k i U, rows-from cols k i T)
       (c-add (c-mul-left c (h i (omega arith))) (below-products T U M N h cs k (i + 1) (omega arith)))
 
-module _ (q : ℕ) (pr : Prime q) (rows cols : ℕ) (T : List ℕ) (tab : Table q rows cols T) (S : List (List ℕ)) (hS : All (Vector q cols) S) (U : List ℕ) (tabU : Table q rows cols U)
+module _ (q : ℕ) (pr : Prime q) (rows cols : ℕ) (T : List ℕ) (tab : Table q rows cols T) (S : List (List ℕ)) (hS : All (Vector q cols) S) (U : List ℕ)
+    (tabU : Table q rows cols U)
     (R : Reduced q rows cols 0 (rowOf cols T) S U) where
   all-rows : (X : List ℕ) → rowsOf rows cols X ≡ rowsOf rows cols (drop (0 * cols) X)
   all-rows X = ap (λ (n : ℕ). rowsOf rows cols (drop n X)) {x = 0} {y = 0 * cols} (omega arith)

@@ -27,7 +27,8 @@ use Rattle.matrices.proofs.Vectors.{dot-right}
 use Rattle.matrices.proofs.Spans.{span-dot, in-span-iff}
 use Rattle.matrices.proofs.Duality.{orthogonal-cong, span-unless}
 use Rattle.matrices.proofs.Steps.{rows-fit, rest-size, length-scaled, length-cleared, length-eliminated, pivot-is, no-pivot, some-pivot}
-use Rattle.matrices.proofs.Rows.{pivot-nonzero, pivot-none, dot-scaled-row, dot-cleared, vector-cleared, vector-row, dot-pick, row-before, row-after, row-rest, row-eachRow, rows-from}
+use Rattle.matrices.proofs.Rows.{pivot-nonzero, pivot-none, dot-scaled-row, dot-cleared, vector-cleared, vector-row, dot-pick, row-before}
+use Rattle.matrices.proofs.Rows.{row-after, row-rest, row-eachRow, rows-from}
 
 -- a table of at most 48 rows and columns whose rows are symbols
 pub record Table (q rows cols : ℕ) (T : List ℕ) : Type 0 where
@@ -70,7 +71,8 @@ kill-number q m u c d s em one hs =
     (c-add (c-refl {a = d}) (c-mul-left (m * d) one))
     (record { up = 0; dn = d; eq = omega (arith, ap (λ (z : ℕ). z * d) em) })))
 
-module _ (q rows cols low : ℕ) (row : ℕ → List ℕ) (S : List (List ℕ)) (U : List ℕ) (i : ℕ) (low-i : low ≤ i) (i-rows : i < rows) (R : Reduced q rows cols low row S U) where
+module _ (q rows cols low : ℕ) (row : ℕ → List ℕ) (S : List (List ℕ)) (U : List ℕ) (i : ℕ) (low-i : low ≤ i) (i-rows : i < rows)
+    (R : Reduced q rows cols low row S U) where
   -- row i of U is 0: row i was in the span already
   reduced-same : (low′ : ℕ) → low ≤ low′ → ((N : List ℕ) → dotN (rowOf cols U i) N ≡ 0) → Reduced q rows cols low′ row (S ++ (row i ∷ [])) U
   reduced-same low′ h z =
@@ -88,7 +90,8 @@ module _ (q rows cols low : ℕ) (row : ℕ → List ℕ) (S : List (List ℕ)) 
   -- the rows of U′ are those of U, cleared in column p by s, a multiple of row i of U that has 1 there
   module _ (em : 1 ≤ q) (p c : ℕ) (s U′ : List ℕ) (one : Cong q (at (rowOf cols U i) p * c) 1)
       (hs : (N : List ℕ) → Cong q (dotN s N) (c * dotN (rowOf cols U i) N)) (low′ : ℕ) (h : low ≤ low′)
-      (hv : (j : ℕ) → low′ ≤ j → j < rows → (N : List ℕ) → Cong q (dotN (rowOf cols U′ j) N) (dotN (rowOf cols U j) N + (q - 1) * at (rowOf cols U j) p * dotN s N)) where
+      (hv : (j : ℕ) → low′ ≤ j → j < rows → (N : List ℕ) → Cong q (dotN (rowOf cols U′ j) N)
+      (dotN (rowOf cols U j) N + (q - 1) * at (rowOf cols U j) p * dotN s N)) where
     -- the list that has with v what v less v[p] s has with N
     moved : List ℕ → List ℕ
     moved N = add N (scale ((q - 1) * dotN s N) (zeros p ++ (1 ∷ [])))
@@ -165,7 +168,8 @@ module _ (q : ℕ) (pr : Prime q) (rows cols from : ℕ) (U : List ℕ) (tab : T
       let e : j ≡ from + (j - from) = omega arith in
       ap₂ (λ (X : List ℕ) (x : ℕ). rowOf cols X x) (is-cleared h) e
       ∙ row-after cols from U fits _ (j - from)
-      ∙ row-eachRow (cleared q (pivotOf r) s) (length-cleared q (pivotOf r) s) cols (rows - from) (drop (from * cols) U) (rest-size rows cols from U from-rows (tab .size)) (j - from) (omega arith)
+      ∙ row-eachRow (cleared q (pivotOf r) s) (length-cleared q (pivotOf r) s) cols (rows - from) (drop (from * cols) U)
+      (rest-size rows cols from U from-rows (tab .size)) (j - from) (omega arith)
       ∙ ap (cleared q (pivotOf r) s) (row-rest cols from U (j - from) ∙ ap (rowOf cols U) (sym e))
 
   pub eliminated-table : Table q rows cols (eliminatedFrom q rows cols from i U)
@@ -205,7 +209,8 @@ module _ (q : ℕ) (pr : Prime q) (rows cols from : ℕ) (U : List ℕ) (tab : T
           (c-trans (c-sym (of-rem q (a * inverseOf q a))) (of-eq (inverse-one q a pr some .1)))
           (dot-scaled-row q pos (inverseOf q a) r) low′ l
           (λ j k g N.
-          subst (λ (x : List ℕ). Cong q (dotN x N) (dotN (rowOf cols U j) N + (q - 1) * at (rowOf cols U j) (pivotOf r) * dotN s N)) (sym (after h j (omega arith) g))
+          subst (λ (x : List ℕ). Cong q (dotN x N) (dotN (rowOf cols U j) N + (q - 1) * at (rowOf cols U j) (pivotOf r) * dotN s N))
+          (sym (after h j (omega arith) g))
           (dot-cleared q pos (pivotOf r) s (rowOf cols U j) N (tab .valid j g .size ∙ sym s-size)))
 
 -- a table keeps its length
@@ -334,7 +339,8 @@ module _ (q : ℕ) (pr : Prime q) (rows cols : ℕ) (T : List ℕ) (valid : (j :
       ∙ sym (ap (rankOver q cols S) (rows-from cols k i T))
 
 -- elimination counts the rank
-pub pivots-are-rank : (q : ℕ) → Prime q → (rows cols : ℕ) (T : List ℕ) → Table q rows cols T → pivotsFrom q rows cols rows 0 T ≡ rankOf q cols (rowsOf rows cols T)
+pub pivots-are-rank : (q : ℕ) → Prime q → (rows cols : ℕ) (T : List ℕ) → Table q rows cols T → pivotsFrom q rows cols rows 0 T ≡ rankOf q cols
+    (rowsOf rows cols T)
 pivots-are-rank q pr rows cols T tab =
     pivots-rank q pr rows cols T (tab .valid) rows 0 [] T (omega arith) tt tab (reduced-none q rows cols T)
     ∙ ap (λ (n : ℕ). rankOf q cols (rowsOf rows cols (drop n T))) {x = 0 * cols} {y = 0} (omega arith)

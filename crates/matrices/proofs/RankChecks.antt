@@ -26,6 +26,7 @@ checks-passed q rows cols T e =
     record {
       prime = p;
       table =
-          table-of q rows cols T (prime-pos p) (leb→le rows 48 h) (leb→le cols 48 k) (eqb-true (rows * cols) (length T) (not-false (eqb (rows * cols) (length T)) (w .1 .0)))
+          table-of q rows cols T (prime-pos p) (leb→le rows 48 h) (leb→le cols 48 k)
+          (eqb-true (rows * cols) (length T) (not-false (eqb (rows * cols) (length T)) (w .1 .0)))
           (true→T (allBelow q T) (not-false (allBelow q T) (w .1 .1 .1 .0)));
     }

@@ -148,7 +148,8 @@ module _ (cols from : ℕ) (T : List ℕ) (fits : from * cols ≤ length T) wher
   -- a row from there on is that of the rest
   pub row-after : (X : List ℕ) (i : ℕ) → rowOf cols (take (from * cols) T ++ X) (from + i) ≡ rowOf cols X i
   row-after X i =
-      ap (λ (k : ℕ). take cols (drop k (take (from * cols) T ++ X))) {x = (from + i) * cols} {y = length (take (from * cols) T) + i * cols} (omega (arith, front))
+      ap (λ (k : ℕ). take cols (drop k (take (from * cols) T ++ X))) {x = (from + i) * cols} {y = length (take (from * cols) T) + i * cols}
+      (omega (arith, front))
       ∙ ap (take cols) (drop-append-add (take (from * cols) T) X (i * cols))
 
 pub row-rest : (cols from : ℕ) (T : List ℕ) (i : ℕ) → rowOf cols (drop (from * cols) T) i ≡ rowOf cols T (from + i)

@@ -190,7 +190,8 @@ module _ (q cols i k c : ℕ) (T ys Z : List ℕ) (e : k ≡ cols) (h : i * cols
   pub front-room : cols ≤ length (ys ++ Z)
   front-room = omega (arith, length-append ys Z, front-size)
 
-  pub front-row : (p : ℕ) → p < cols → p ≡ pivotOf (rowOf cols T i) → c ≡ inverseOf q (getD T (i * cols + p) 0) → take cols (ys ++ Z) ≡ pivotRow q (rowOf cols T i)
+  pub front-row : (p : ℕ) → p < cols → p ≡ pivotOf (rowOf cols T i) → c ≡ inverseOf q (getD T (i * cols + p) 0) → take cols (ys ++ Z) ≡ pivotRow q
+      (rowOf cols T i)
   front-row p l ep ec =
       let g : getD T (i * cols + p) 0 ≡ getD (rowOf cols T i) p 0 = sym (getD-take cols (drop (i * cols) T) p 0 l ∙ getD-drop (i * cols) T p 0) in
       take-at ys Z cols front-size ∙ y ∙ ap (λ (n : ℕ). scaled q c (take n (drop (i * cols) T))) e
@@ -269,7 +270,8 @@ pub count-next : (q rows cols i n N : ℕ) (T : List ℕ) → i < rows → n + p
 unfolding pivotsFrom
 count-next q rows cols i n N T h e =
     let s : rows - i ≡ suc (rows - (i + 1)) = omega arith in
-    let f : pivotsFrom q rows cols (rows - i) i T ≡ cond (hasPivot rows cols i T) 1 0 + pivotsFrom q rows cols (rows - (i + 1)) (i + 1) (eliminatedFrom q rows cols (i + 1) i T) =
+    let f : pivotsFrom q rows cols (rows - i) i T ≡ cond (hasPivot rows cols i T) 1 0 + pivotsFrom q rows cols (rows - (i + 1)) (i + 1)
+    (eliminatedFrom q rows cols (i + 1) i T) =
     ap (λ (k : ℕ). pivotsFrom q rows cols k i T) s in
     omega arith
 

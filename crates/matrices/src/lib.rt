@@ -201,7 +201,7 @@ fn count_in_copy(q: Symbol, rows: usize, cols: usize, table: &[Symbol]) -> usize
     ensures { λ r. ⌜ r ≡ pivotsFrom q rows cols rows 0 (now (table .entry)) ⌝ }
 {
     let m = rows * cols;
-    let mut t = [0u16; 2304];
+    let mut t = [0u16; MOST * MOST];
     copy_all(table, &mut t[..m]);
     count_pivots(q, rows, cols, &mut t[..m])
 }

@@ -78,7 +78,8 @@ none-above q h p = go (decLt 65521 q)
     go : Dec (65521 < q) → q ≤ 65521
     go (no n) = omega (arith, n)
     go (yes l) =
-        let (d, few, t) = any-found 20 (λ d. leb 2 d && eqb ((65522 + (q - 65522)) % d) 0) (all-at 14 (λ k. anyTo 20 (λ d. leb 2 d && eqb ((65522 + k) % d) 0)) (true→T _ divisible) (q - 65522) (omega arith)) in
+        let (d, few, t) = any-found 20 (λ d. leb 2 d && eqb ((65522 + (q - 65522)) % d) 0)
+        (all-at 14 (λ k. anyTo 20 (λ d. leb 2 d && eqb ((65522 + k) % d) 0)) (true→T _ divisible) (q - 65522) (omega arith)) in
         let (two, none) = T-and (leb 2 d) (eqb ((65522 + (q - 65522)) % d) 0) t in
         absurd (p .none d (leb→le 2 d two) (omega arith) (ap (λ (n : ℕ). n % d) (omega arith) ∙ eqb→eq ((65522 + (q - 65522)) % d) 0 none))
 

@@ -14,7 +14,7 @@ use Rattle.residues.specs.Primes.{isPrime, allBelow}
 use Rattle.lists.proofs.Searches.{true→T, T-and}
 use Rattle.plans.specs.declared.Plan.{Plan}
 use Rattle.plans.specs.Plans.{usersOf, inBounds}
-use Rattle.records.specs.Records.{wordsOf, recordSize, distance, start, badTrailer, planRead, tableRead, readChecks, readVerdict, writeChecks, writeVerdict}
+use Rattle.records.specs.Records.{wordsOf, recordSize, distance, start, badTrailer, planRead, tableRead, readChecks, readCode, writeChecks, writeCode}
 use Rattle.records.proofs.Trailers.{trailer-of}
 
 -- ---- reading
@@ -27,7 +27,7 @@ pub record Readable (B out : List ℕ) : Type 0 where
   pub prime : isPrime (planRead B .q) ≡ true
   pub below : allBelow (planRead B .q) (tableRead B) ≡ true
 
-pub readable : (B out : List ℕ) → accepted ≡ readVerdict B out → Readable B out
+pub readable : (B out : List ℕ) → accepted ≡ readCode B out → Readable B out
 readable B out e =
     let w = none-holds (readChecks B out) tt e in
     let P : Plan = planRead B in
@@ -67,7 +67,7 @@ pub record Writable (P : Plan) (K out : List ℕ) : Type 0 where
   pub below : allBelow (P .q) K ≡ true
   pub size : length out ≡ recordSize P
 
-pub writable : (P : Plan) (K out : List ℕ) → accepted ≡ writeVerdict P K out → Writable P K out
+pub writable : (P : Plan) (K out : List ℕ) → accepted ≡ writeCode P K out → Writable P K out
 writable P K out e =
     let w = none-holds (writeChecks P K out) tt e in
     let table : Bool = eqb (length K) (usersOf P * P .rate) in

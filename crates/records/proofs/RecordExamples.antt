@@ -7,7 +7,7 @@ use Rattle.refusals.specs.Codes.{code, accepted}
 use Rattle.lists.specs.Search.{allTo}
 use Rattle.residues.specs.Primes.{isPrime, allBelow}
 use Rattle.plans.specs.Plans.{plan}
-use Rattle.records.specs.Records.{wordsOf, bytesOfAll, recordOf, planRead, tableRead, readVerdict}
+use Rattle.records.specs.Records.{wordsOf, bytesOfAll, recordOf, planRead, tableRead, readCode}
 
 table : List ℕ
 table = 1 ∷ 0 ∷ 0 ∷ 1 ∷ 2 ∷ 4 ∷ 1 ∷ 4 ∷ 1 ∷ 2 ∷ 4 ∷ 0 ∷ []
@@ -24,21 +24,21 @@ written : recordOf (plan 2 2 1 3 5) table ≡ bytes
 unfolding recordOf bytesOfAll table bytes
 written = refl
 
-read : (readVerdict bytes lent ≡ accepted) × (planRead bytes ≡ plan 2 2 1 3 5) × (tableRead bytes ≡ table)
+read : (readCode bytes lent ≡ accepted) × (planRead bytes ≡ plan 2 2 1 3 5) × (tableRead bytes ≡ table)
 unfolding wordsOf isPrime allTo allBelow table bytes lent
 read = (refl, refl, refl)
 
 -- bytes before the record don't matter
-late : readVerdict (7 ∷ 7 ∷ 7 ∷ bytes) lent ≡ accepted
+late : readCode (7 ∷ 7 ∷ 7 ∷ bytes) lent ≡ accepted
 unfolding wordsOf isPrime allTo allBelow bytes lent
 late = refl
 
 -- 5: a wrong mark; 1: no users; 4: another distance, another lent table; 2: q 9; 3: a symbol 5
-refusals : (readVerdict (set bytes 33 0x51) lent ≡ code 5)
-    × (readVerdict (set bytes 1 0) lent ≡ code 1)
-    × (readVerdict (7 ∷ set bytes 30 0x23) lent ≡ code 4)
-    × (readVerdict bytes (7 ∷ lent) ≡ code 4)
-    × (readVerdict (set bytes 4 9) lent ≡ code 2)
-    × (readVerdict (set bytes 6 5) lent ≡ code 3)
+refusals : (readCode (set bytes 33 0x51) lent ≡ code 5)
+    × (readCode (set bytes 1 0) lent ≡ code 1)
+    × (readCode (7 ∷ set bytes 30 0x23) lent ≡ code 4)
+    × (readCode bytes (7 ∷ lent) ≡ code 4)
+    × (readCode (set bytes 4 9) lent ≡ code 2)
+    × (readCode (set bytes 6 5) lent ≡ code 3)
 unfolding wordsOf isPrime allTo allBelow bytes lent
 refusals = (refl, refl, refl, refl, refl, refl)

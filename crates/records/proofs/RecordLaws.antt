@@ -12,8 +12,10 @@ use Rattle.residues.specs.Primes.{isPrime, allBelow}
 use Rattle.lists.specs.Lists.{at}
 use Rattle.plans.specs.declared.Plan.{Plan}
 use Rattle.plans.specs.Plans.{usersOf, inBounds}
-use Rattle.records.specs.Records.{word, bytesOf, wordsOf, bytesOfAll, recordSize, recordOf, distance, start, badTrailer, planRead, tableRead, readVerdict, writeVerdict}
-use Rattle.records.proofs.Bytes.{AreBytes, length-bytes, words-of-bytes, drop-two, bytes-of-word, bytes-of-words, no-bytes, byte-more, bytes-append, word-bytes, words-bytes}
+use Rattle.records.specs.Records.{word, bytesOf, wordsOf, bytesOfAll, recordSize, recordOf, distance, start, badTrailer, planRead, tableRead}
+use Rattle.records.specs.Records.{readCode, writeCode}
+use Rattle.records.proofs.Bytes.{AreBytes, length-bytes, words-of-bytes, drop-two, bytes-of-word, bytes-of-words, no-bytes, byte-more, bytes-append}
+use Rattle.records.proofs.Bytes.{word-bytes, words-bytes}
 use Rattle.records.proofs.PlanSizes.{bounded}
 use Rattle.records.proofs.Trailers.{Trailer, trailer-of, trailer-good}
 use Rattle.records.proofs.RecordChecks.{readable, writable}
@@ -43,7 +45,8 @@ record-bytes P K e q k =
     (byte-more (P .limit) (P .rate ∷ bytesOf (P .q)) (omega (arith, b .limit))
     (byte-more (P .rate) (bytesOf (P .q)) (omega (arith, b .rate)) (word-bytes (P .q) q)))) in
     bytes-append (headOf P ++ bytesOfAll K ++ bytesOf (recordSize P)) (0x4b ∷ 0x50 ∷ [])
-    (bytes-append (headOf P ++ bytesOfAll K) (bytesOf (recordSize P)) (bytes-append (headOf P) (bytesOfAll K) head (words-bytes K k)) (word-bytes (recordSize P) size))
+    (bytes-append (headOf P ++ bytesOfAll K) (bytesOf (recordSize P)) (bytes-append (headOf P) (bytesOfAll K) head (words-bytes K k))
+    (word-bytes (recordSize P) size))
     mark
 
 -- ---- writing, then reading
@@ -134,7 +137,8 @@ write-read before P K e =
     }
 
 -- the reader accepts whatever the writer wrote, whatever stands before it
-pub written-accepted : (before : List ℕ) (P : Plan) (K out lent : List ℕ) → accepted ≡ writeVerdict P K out → length lent ≡ 256 → accepted ≡ readVerdict (before ++ recordOf P K) lent
+pub written-accepted : (before : List ℕ) (P : Plan) (K out lent : List ℕ) → accepted ≡ writeCode P K out → length lent ≡ 256 → accepted ≡ readCode
+    (before ++ recordOf P K) lent
 written-accepted before P K out lent e l =
     let w = writable P K out e in
     let r = write-read before P K (w .table) in
@@ -157,7 +161,7 @@ head-bytes B s h b =
     ∙ ap (λ (l : List ℕ). at B s ∷ at B (s + 1) ∷ l) (sym (drop-two B (s + 2) (s + 3) (s + 4) (omega arith) (omega arith) (omega arith)))
     ∙ sym (drop-two B s (s + 1) (s + 2) refl refl (omega arith))
 
-module _ (B out : List ℕ) (bytes : AreBytes B) (read : accepted ≡ readVerdict B out) where
+module _ (B out : List ℕ) (bytes : AreBytes B) (read : accepted ≡ readCode B out) where
   tail : trailerOf (recordSize (planRead B)) ≡ drop (length B - 4) B
   tail =
       let t = trailer-of B (readable B out read .trailer) in
@@ -186,10 +190,11 @@ module _ (B out : List ℕ) (bytes : AreBytes B) (read : accepted ≡ readVerdic
       ∙ head-bytes B s (omega arith) (bytes (s + 4))
 
 -- whatever is read, written again, is the last D bytes of the buffer
-pub read-write : (B out : List ℕ) → AreBytes B → accepted ≡ readVerdict B out → recordOf (planRead B) (tableRead B) ≡ drop (length B - distance B) B
+pub read-write : (B out : List ℕ) → AreBytes B → accepted ≡ readCode B out → recordOf (planRead B) (tableRead B) ≡ drop (length B - distance B) B
 read-write = all-bytes
 
 -- a plan and a table are read from one record alone
-pub one-record : (B C out : List ℕ) → AreBytes B → AreBytes C → accepted ≡ readVerdict B out → accepted ≡ readVerdict C out → planRead B ≡ planRead C → tableRead B ≡ tableRead C
+pub one-record : (B C out : List ℕ) → AreBytes B → AreBytes C → accepted ≡ readCode B out → accepted ≡ readCode C out → planRead B ≡ planRead C → tableRead B
+    ≡ tableRead C
     → drop (start B) B ≡ drop (start C) C
 one-record B C out b c r s p k = sym (read-write B out b r) ∙ ap₂ recordOf p k ∙ read-write C out c s

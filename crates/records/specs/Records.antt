@@ -81,8 +81,8 @@ checksOf B lengths =
 abbrev pub readChecks : List ℕ → List ℕ → List (Bool × Code)
 readChecks B out = checksOf B (eqb (length out) 256)
 
-abbrev pub readVerdict : List ℕ → List ℕ → Code
-readVerdict B out = firstOf (readChecks B out)
+abbrev pub readCode : List ℕ → List ℕ → Code
+readCode B out = firstOf (readChecks B out)
 
 -- what the lent table holds: the plan's symbols, and 0 past them
 abbrev pub padded : List ℕ → List ℕ
@@ -90,19 +90,19 @@ padded K = K ++ replicate (256 - length K) 0
 
 -- the plan that is answered, and what the lent table holds after the call
 abbrev pub planAfter : List ℕ → List ℕ → Plan
-planAfter B out = ifAccepted (readVerdict B out) (planRead B) noPlan
+planAfter B out = ifAccepted (readCode B out) (planRead B) noPlan
 
 abbrev pub tableAfter : List ℕ → List ℕ → List ℕ
-tableAfter B out = ifAccepted (readVerdict B out) (padded (tableRead B)) out
+tableAfter B out = ifAccepted (readCode B out) (padded (tableRead B)) out
 
 -- ---- writing
 
 abbrev pub writeChecks : Plan → List ℕ → List ℕ → List (Bool × Code)
 writeChecks P K out = tableChecks P K ++ (not (eqb (length out) (recordSize P)), code 4) ∷ []
 
-abbrev pub writeVerdict : Plan → List ℕ → List ℕ → Code
-writeVerdict P K out = firstOf (writeChecks P K out)
+abbrev pub writeCode : Plan → List ℕ → List ℕ → Code
+writeCode P K out = firstOf (writeChecks P K out)
 
 -- what the lent buffer holds after the call
 abbrev pub bytesAfter : Plan → List ℕ → List ℕ → List ℕ
-bytesAfter P K out = ifAccepted (writeVerdict P K out) (recordOf P K) out
+bytesAfter P K out = ifAccepted (writeCode P K out) (recordOf P K) out

@@ -9,7 +9,7 @@ ghost use Rattle.residues.specs.Primes.{allBelow};
 ghost use Rattle.lists.specs.Lists.{at};
 ghost use Rattle.plans.specs.Plans.{usersOf, inBounds, plannedCode, plannedPlan};
 ghost use Rattle.records.specs.Records.{word, bytesOf, wordsOf, bytesOfAll, recordSize, recordOf, distance, start};
-ghost use Rattle.records.specs.Records.{badTrailer, planRead, readVerdict, planAfter, tableAfter, padded, writeVerdict, bytesAfter};
+ghost use Rattle.records.specs.Records.{badTrailer, planRead, readCode, planAfter, tableAfter, padded, writeCode, bytesAfter};
 use arithmetic::Symbol;
 use arithmetic::is_prime;
 use plans::Plan;
@@ -127,7 +127,7 @@ fn words_below(q: Symbol, bytes: &[u8], from: usize, count: usize) -> bool
 
 // The reader's checks. The symbols are tested where they lie, so that a refusal writes nothing.
 fn check_record(bytes: &[u8], table: &[Symbol]) -> Planned
-    ensures code { λ r. ⌜ plannedCode r ≡ readVerdict (now (bytes .entry)) (now (table .entry)) ⌝ }
+    ensures code { λ r. ⌜ plannedCode r ≡ readCode (now (bytes .entry)) (now (table .entry)) ⌝ }
     ensures plan { λ r. ⌜ plannedPlan r ≡ planAfter (now (bytes .entry)) (now (table .entry)) ⌝ }
 {
     if bad_trailer(bytes) {
@@ -177,7 +177,7 @@ fn fill(bytes: &[u8], from: usize, count: usize, table: &mut [Symbol])
 
 // The plan of the record at the buffer's end, whose key table is put in the lent table.
 pub fn read_record(bytes: &[u8], table: &mut [Symbol]) -> Planned
-    ensures code { λ r. ⌜ plannedCode r ≡ readVerdict (now (bytes .entry)) (now (table .entry)) ⌝ }
+    ensures code { λ r. ⌜ plannedCode r ≡ readCode (now (bytes .entry)) (now (table .entry)) ⌝ }
     ensures plan { λ r. ⌜ plannedPlan r ≡ planAfter (now (bytes .entry)) (now (table .entry)) ⌝ }
     ensures table { λ _. ⌜ now (table .exit) ≡ tableAfter (now (bytes .entry)) (now (table .entry)) ⌝ }
 {
@@ -237,7 +237,7 @@ fn write_parts(plan: Plan, table: &[Symbol], out: &mut [u8])
 
 // The vet's checks of a plan and a table, then that of the buffer.
 fn check_writing(plan: Plan, table: &[Symbol], out: &[u8]) -> Verdict
-    ensures { λ r. ⌜ verdictCode r ≡ writeVerdict plan (now (table .entry)) (now (out .entry)) ⌝ }
+    ensures { λ r. ⌜ verdictCode r ≡ writeCode plan (now (table .entry)) (now (out .entry)) ⌝ }
 {
     let verdict = check_plan(plan, table);
     if !verdict.is_accepted() {
@@ -251,7 +251,7 @@ fn check_writing(plan: Plan, table: &[Symbol], out: &[u8]) -> Verdict
 
 // Writes the record of a plan and its key table.
 pub fn write_record(plan: Plan, table: &[Symbol], out: &mut [u8]) -> Verdict
-    ensures code { λ r. ⌜ verdictCode r ≡ writeVerdict plan (now (table .entry)) (now (out .entry)) ⌝ }
+    ensures code { λ r. ⌜ verdictCode r ≡ writeCode plan (now (table .entry)) (now (out .entry)) ⌝ }
     ensures out { λ _. ⌜ now (out .exit) ≡ bytesAfter plan (now (table .entry)) (now (out .entry)) ⌝ }
 {
     let verdict = check_writing(plan, table, out);

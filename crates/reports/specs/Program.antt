@@ -9,7 +9,7 @@ use Rattle.refusals.specs.Codes.{code, firstOf}
 use Rattle.lists.specs.Lists.{zeros}
 use Rattle.reports.specs.declared.Line.{Line}
 use Rattle.records.specs.Records.{planRead, tableRead, readChecks}
-use Rattle.vetting.specs.Verdict.{vetChecks}
+use Rattle.vetting.specs.Vet.{vetChecks}
 
 -- "input above 65,535 bytes is 4, before all else"; then the reader's checks, with a table of its own that is long enough, and the vet's
 abbrev pub programChecks : List ℕ → List (Bool × Code)

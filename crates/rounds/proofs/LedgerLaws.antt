@@ -25,10 +25,12 @@ use Rattle.rounds.specs.declared.Round.{Round}
 use Rattle.rounds.specs.Ledger.{Frame, named, bitsOf, countedAt}
 use Rattle.lists.specs.Bits.{hasBit}
 use Rattle.rounds.specs.Machine.{Good}
-use Rattle.rounds.specs.Rounds.{oneOf, sumsFit, stateChecks, hasReported, isFull, after, ownChecks, lentChecks, frameChecks, giveChecks, stepCode, stepped, giveCode, sumsAfter, answersOf, runOf, noted, ledgerAnswers, ledgerOf, ledgerGiveCode, ledgerSums}
+use Rattle.rounds.specs.Rounds.{oneOf, sumsFit, stateChecks, hasReported, isFull, after, ownChecks, lentChecks, frameChecks, giveChecks, stepCode}
+use Rattle.rounds.specs.Rounds.{stepped, giveCode, sumsAfter, answersOf, runOf, noted, ledgerAnswers, ledgerOf, ledgerGiveCode, ledgerSums}
 use Rattle.rounds.proofs.CheckLaws.{good-state, Passed, frame-known}
 use Rattle.rounds.proofs.ReportedLaws.{bit-added, added-below}
 use Rattle.rounds.proofs.StepLaws.{all-cong, or-none, past-zero}
+use Rattle.plans.specs.Plans.{maxLength}
 
 -- ---- a ledger with one frame more
 
@@ -131,9 +133,9 @@ module _ (senders : ℕ) (known : Bool) (R : Round) where
   summed ledger p = cond (ltb p (R .length)) ((at (R .sums) p + countedAt ledger p) % R .q) 0
 
   -- nothing counted
-  pub after-none : Good senders R → length (R .sums) ≡ 64 → R ≡ after R []
+  pub after-none : Good senders R → length (R .sums) ≡ maxLength → R ≡ after R []
   unfolding bitsOf countedAt
-  after-none g e = ap₂ holding (sym (add-zero (R .reported))) (sym (tab-at 64 (summed []) (R .sums) e (λ k l. go k (decLt k (R .length)))))
+  after-none g e = ap₂ holding (sym (add-zero (R .reported))) (sym (tab-at maxLength (summed []) (R .sums) e (λ k l. go k (decLt k (R .length)))))
     where
       go : (k : ℕ) → Dec (k < R .length) → cond (ltb k (R .length)) ((at (R .sums) k + 0) % R .q) 0 ≡ at (R .sums) k
       go k (yes h) =
@@ -147,13 +149,14 @@ module _ (senders : ℕ) (known : Bool) (R : Round) where
   -- one frame after others
   pub after-twice : (ledger : List Frame) (f : Frame) → after (after R ledger) (f ∷ []) ≡ after R (ledger ++ (f ∷ []))
   unfolding bitsOf countedAt
-  after-twice ledger f = ap₂ holding (omega (arith, bits-more ledger f)) (tab-cong 64 _ (summed (ledger ++ (f ∷ []))) (λ k l. go k l (decLt k (R .length))))
+  after-twice ledger f = ap₂ holding (omega (arith, bits-more ledger f))
+      (tab-cong maxLength _ (summed (ledger ++ (f ∷ []))) (λ k l. go k l (decLt k (R .length))))
     where
-      go : (k : ℕ) → k < 64 → Dec (k < R .length)
-          → cond (ltb k (R .length)) ((at (tab 64 (summed ledger)) k + (at (f .block) k + 0)) % R .q) 0 ≡ summed (ledger ++ (f ∷ [])) k
+      go : (k : ℕ) → k < maxLength → Dec (k < R .length)
+          → cond (ltb k (R .length)) ((at (tab maxLength (summed ledger)) k + (at (f .block) k + 0)) % R .q) 0 ≡ summed (ledger ++ (f ∷ [])) k
       go k l (yes h) =
-          let here : at (tab 64 (summed ledger)) k ≡ (at (R .sums) k + countedAt ledger k) % R .q =
-          at-tab 64 (summed ledger) k l ∙ ap (λ (t : Bool). cond t ((at (R .sums) k + countedAt ledger k) % R .q) 0) (lt-ltb k (R .length) h) in
+          let here : at (tab maxLength (summed ledger)) k ≡ (at (R .sums) k + countedAt ledger k) % R .q =
+          at-tab maxLength (summed ledger) k l ∙ ap (λ (t : Bool). cond t ((at (R .sums) k + countedAt ledger k) % R .q) 0) (lt-ltb k (R .length) h) in
           rw (lt-ltb k (R .length) h)
           (ap (λ (z : ℕ). (z + (at (f .block) k + 0)) % R .q) here
           ∙ to-mod (c-add (of-rem (R .q) (at (R .sums) k + countedAt ledger k)) c-refl)
@@ -161,25 +164,27 @@ module _ (senders : ℕ) (known : Bool) (R : Round) where
       go k l (no h) = rw (le-ltb k (R .length) (omega arith))
 
   -- the round of a ledger is good where R is
-  pub after-sums : Good senders R → (ledger : List Frame) → sumsFit (R .q) (R .length) (tab 64 (summed ledger)) ≡ true
+  pub after-sums : Good senders R → (ledger : List Frame) → sumsFit (R .q) (R .length) (tab maxLength (summed ledger)) ≡ true
   after-sums g ledger =
-      let S : List ℕ = tab 64 (summed ledger) in
+      let S : List ℕ = tab maxLength (summed ledger) in
       let L : ℕ = R .length in
       let pos : 0 < R .q = prime-pos (g .opening .prime) in
-      let few : L ≤ 64 = g .opening .few-length in
+      let few : L ≤ maxLength = g .opening .few-length in
       let low : allBelow (R .q) (take L S) ≡ true =
       T→true _ (at-below (R .q) (take L S)
       (λ i h.
-      let l : i < L = subst (λ (n : ℕ). i < n) (length-take-le L S (omega (arith, length-tab 64 (summed ledger)))) h in
+      let l : i < L = subst (λ (n : ℕ). i < n) (length-take-le L S (omega (arith, length-tab maxLength (summed ledger)))) h in
       subst (λ (z : ℕ). z < R .q)
-      (sym (getD-take L S i 0 l ∙ at-tab 64 (summed ledger) i (omega arith) ∙ ap (λ (t : Bool). cond t ((at (R .sums) i + countedAt ledger i) % R .q) 0) (lt-ltb i L l)))
+      (sym (getD-take L S i 0 l ∙ at-tab maxLength (summed ledger) i (omega arith) ∙ ap (λ (t : Bool). cond t ((at (R .sums) i + countedAt ledger i) % R .q) 0)
+      (lt-ltb i L l)))
       (mod-lt (at (R .sums) i + countedAt ledger i) pos))) in
       let high : allBelow 1 (drop L S) ≡ true =
       T→true _ (at-below 1 (drop L S)
       (λ i h.
-      let l : i < 64 - L = subst (λ (n : ℕ). i < n) (length-drop L S ∙ ap (λ (n : ℕ). n - L) (length-tab 64 (summed ledger))) h in
+      let l : i < maxLength - L = subst (λ (n : ℕ). i < n) (length-drop L S ∙ ap (λ (n : ℕ). n - L) (length-tab maxLength (summed ledger))) h in
       subst (λ (z : ℕ). z < 1)
-      (sym (getD-drop L S i 0 ∙ at-tab 64 (summed ledger) (L + i) (omega arith) ∙ ap (λ (t : Bool). cond t ((at (R .sums) (L + i) + countedAt ledger (L + i)) % R .q) 0) (le-ltb (L + i) L (omega arith))))
+      (sym (getD-drop L S i 0 ∙ at-tab maxLength (summed ledger) (L + i) (omega arith) ∙ ap
+      (λ (t : Bool). cond t ((at (R .sums) (L + i) + countedAt ledger (L + i)) % R .q) 0) (le-ltb (L + i) L (omega arith))))
       (omega arith))) in
       ap₂ _&&_ low high
 
@@ -187,8 +192,7 @@ module _ (senders : ℕ) (known : Bool) (R : Round) where
     pub after-state : (ledger : List Frame) → Sound senders R ledger → accepted ≡ firstOf (stateChecks senders known (after R ledger))
     after-state ledger sound =
         let w = none-holds (stateChecks senders known R) tt e in
-        let heard = T-and known (ltb (R .reported) (2 ^ senders)) (true→T _ (not-false (known && ltb (R .reported) (2 ^ senders)) (w .1 .1 .1 .0))) in
-        sym (simp (w .0, w .1 .0, w .1 .1 .0, T→true known (heard .0), lt-ltb _ _ (sound .below), after-sums (good-state senders known R e) ledger))
+        sym (simp (w .0, w .1 .0, w .1 .1 .0, w .1 .1 .1 .0, lt-ltb _ _ (sound .below), after-sums (good-state senders known R e) ledger))
 
     module _ (ledger : List Frame) (sound : Sound senders R ledger) where
       -- a frame is answered as the ledger answers it
@@ -198,7 +202,8 @@ module _ (senders : ℕ) (known : Bool) (R : Round) where
           ∙ own-same senders R ledger sound f
           ∙ rest-decides (stateChecks senders known R) (ownChecks senders R ledger f) tt e
 
-      step-same : (f : Frame) → (stepped senders known (after R ledger) f ≡ after R (noted senders known R ledger f)) × Sound senders R (noted senders known R ledger f)
+      step-same : (f : Frame) → (stepped senders known (after R ledger) f ≡ after R (noted senders known R ledger f)) × Sound senders R
+          (noted senders known R ledger f)
       step-same f = go (eqb (firstOf (frameChecks senders known R ledger f) .number) 0) refl
         where
           next : Round
@@ -235,16 +240,22 @@ module _ (senders : ℕ) (known : Bool) (R : Round) where
     run-same [] ledger sound = (refl, refl, sound)
     run-same (f ∷ frames) ledger sound =
         let (st, next) = step-same ledger sound f in
-        let (a, r, s) = run-same frames (noted senders known R ledger f) next in
-        (ap₂ _∷_ (frame-same ledger sound f) (ap (λ (X : Round). answersOf senders known X frames) st ∙ a), ap (λ (X : Round). runOf senders known X frames) st ∙ r, s)
+        let (a, r, s) = run-same frames (noted senders known R ledger f) next in (
+          ap₂ _∷_ (frame-same ledger sound f) (ap (λ (X : Round). answersOf senders known X frames) st ∙ a),
+          ap (λ (X : Round). runOf senders known X frames) st
+              ∙ r,
+          s,
+        )
 
   -- a bad state refuses every frame with its own number and stays as it is
   idle : eqb (firstOf (stateChecks senders known R) .number) 0 ≡ false → (frames : List Frame)
-      → (answersOf senders known R frames ≡ ledgerAnswers senders known R [] frames) × (runOf senders known R frames ≡ R) × (ledgerOf senders known R [] frames ≡ [])
+      → (answersOf senders known R frames ≡ ledgerAnswers senders known R [] frames) × (runOf senders known R frames ≡ R)
+      × (ledgerOf senders known R [] frames ≡ [])
   unfolding answersOf runOf ledgerAnswers ledgerOf
   idle n [] = (refl, refl, refl)
   idle n (f ∷ frames) =
-      let same : firstOf (frameChecks senders known R [] f) ≡ firstOf (stateChecks senders known R) = sym (first-decides (stateChecks senders known R) (ownChecks senders R [] f) n) in
+      let same : firstOf (frameChecks senders known R [] f) ≡ firstOf (stateChecks senders known R) = sym
+      (first-decides (stateChecks senders known R) (ownChecks senders R [] f) n) in
       let no : eqb (firstOf (frameChecks senders known R [] f) .number) 0 ≡ false = ap (λ (c : Code). eqb (c .number) 0) same ∙ n in
       let stays : stepped senders known R f ≡ R = ap (λ (t : Bool). cond t (after R (f ∷ [])) R) no in
       let none : noted senders known R [] f ≡ [] = ap (λ (t : Bool). cond t (f ∷ []) []) no in
@@ -256,7 +267,7 @@ module _ (senders : ℕ) (known : Bool) (R : Round) where
       )
 
   -- a good state and its ledger
-  pub good-run : accepted ≡ firstOf (stateChecks senders known R) → length (R .sums) ≡ 64 → (frames : List Frame)
+  pub good-run : accepted ≡ firstOf (stateChecks senders known R) → length (R .sums) ≡ maxLength → (frames : List Frame)
       → (answersOf senders known R frames ≡ ledgerAnswers senders known R [] frames)
       × (runOf senders known R frames ≡ after R (ledgerOf senders known R [] frames))
       × Sound senders R (ledgerOf senders known R [] frames)
@@ -268,7 +279,7 @@ module _ (senders : ℕ) (known : Bool) (R : Round) where
 
   -- ---- for every state, good or bad
 
-  module _ (sixty-four : length (R .sums) ≡ 64) (frames : List Frame) where
+  module _ (sixty-four : length (R .sums) ≡ maxLength) (frames : List Frame) where
     -- the answers, and the round after the frames
     pub ledger-run : (answersOf senders known R frames ≡ ledgerAnswers senders known R [] frames)
         × (runOf senders known R frames ≡ ifAccepted (firstOf (stateChecks senders known R)) (after R (ledgerOf senders known R [] frames)) R)

@@ -24,18 +24,22 @@ use Rattle.rounds.specs.declared.RelayRound.{RelayRound}
 use Rattle.rounds.specs.Ledger.{Frame, framesOf}
 use Rattle.rounds.specs.Machine.{Good}
 use Rattle.rounds.specs.Rounds.{oneOf, after, ownChecks, isFull, lentChecks}
-use Rattle.rounds.specs.Relays.{relayRound, heldOf, heldAs, nothing, relayKnown, relayChecks, hasNext, isNext, aheadOf, roundFor, relayCode, relayCounted, relayNext, moveCode, moved, relayGiveCode}
+use Rattle.rounds.specs.Relays.{relayRound, heldOf, heldAs, nothing, relayKnown, relayChecks, hasNext, isNext, aheadOf, roundFor, relayCode}
+use Rattle.rounds.specs.Relays.{relayCounted, relayNext, moveCode, moved, relayGiveCode}
 use Rattle.rounds.specs.Relays.{Event, heard, moves, asks, told, nextOf, relayAnswers, relayRun}
-use Rattle.rounds.specs.Relays.{Log, log, heldFor, baseOf, roundAt, relayAt, isReported, allReported, logChecks, logCode, logTold, logNext, logAnswers, logAfter, logOf}
+use Rattle.rounds.specs.Relays.{Log, log, heldFor, baseOf, roundAt, relayAt, isReported, allReported, logChecks, logCode, logTold, logNext}
+use Rattle.rounds.specs.Relays.{logAnswers, logAfter, logOf}
 use Rattle.rounds.proofs.CheckLaws.{Passed, ready}
 use Rattle.rounds.proofs.LedgerLaws.{Sound, sound-none, sound-more, full-same, own-same, after-none, after-twice, after-sums}
 use Rattle.rounds.proofs.RelaySteps.{next-number, own-decides}
 use Rattle.rounds.proofs.StepLaws.{or-none}
 use Rattle.rounds.proofs.Zeros.{zeros-low, zeros-high}
+use Rattle.plans.specs.Plans.{maxLength}
 
 -- ---- the frames of one round, with one frame more
 
-pub frames-more : (n : ℕ) (ledger : List Frame) (f : Frame) → framesOf n (ledger ++ (f ∷ [])) ≡ cond (eqb (f .number) n) (framesOf n ledger ++ (f ∷ [])) (framesOf n ledger)
+pub frames-more : (n : ℕ) (ledger : List Frame) (f : Frame) → framesOf n (ledger ++ (f ∷ [])) ≡ cond (eqb (f .number) n) (framesOf n ledger ++ (f ∷ []))
+    (framesOf n ledger)
 unfolding framesOf
 frames-more n [] f = refl
 frames-more n (g ∷ ledger) f =
@@ -73,8 +77,9 @@ pub record Noted (R : RelayRound) (l : Log) (f : Frame) : Type 0 where
 
 pub noted-known : (R : RelayRound) (l : Log) (f : Frame) → accepted ≡ logCode R l (heard f) → Noted R l f
 noted-known R l f e =
-    let w = none-holds (relayChecks R ++ logChecks R l (heard f)) tt e .1 .1 .1 .1 .1 in
-    let (low, high) = T-and (leb 1 (f .sender)) (leb (f .sender) (R .round .size)) (true→T (oneOf (R .round .size) (f .sender)) (not-false (oneOf (R .round .size) (f .sender)) (w .0))) in
+    let w = none-holds (relayChecks R ++ logChecks R l (heard f)) tt e .1 .1 .1 .1 .1 .1 in
+    let (low, high) = T-and (leb 1 (f .sender)) (leb (f .sender) (R .round .size))
+    (true→T (oneOf (R .round .size) (f .sender)) (not-false (oneOf (R .round .size) (f .sender)) (w .0))) in
     record {
       sender-some = leb→le 1 (f .sender) low;
       sender-few = leb→le (f .sender) (R .round .size) high;
@@ -99,7 +104,8 @@ module _ (R : RelayRound) where
 
   held-past : (n : ℕ) → r + 1 < n → heldFor R n ≡ nothing
   held-past n h =
-      ap₂ (λ (s t : Bool). cond s (heldOf (R .round)) (cond t (R .ahead) nothing)) (ne-eqb n r (λ e. absurd (omega arith))) (ne-eqb n (r + 1) (λ e. absurd (omega arith)))
+      ap₂ (λ (s t : Bool). cond s (heldOf (R .round)) (cond t (R .ahead) nothing)) (ne-eqb n r (λ e. absurd (omega arith)))
+      (ne-eqb n (r + 1) (λ e. absurd (omega arith)))
 
 module _ (R : RelayRound) (good : accepted ≡ firstOf (relayChecks R)) where
   -- good for every number
@@ -116,8 +122,8 @@ module _ (R : RelayRound) (good : accepted ≡ firstOf (relayChecks R)) where
           record {
             opening = o;
             reported = pow-pos (R .round .size);
-            low = zeros-low (R .round .q) (R .round .length) 64 (prime-pos (o .prime));
-            high = zeros-high (R .round .q) (R .round .length) 64;
+            low = zeros-low (R .round .q) (R .round .length) maxLength (prime-pos (o .prime));
+            high = zeros-high (R .round .q) (R .round .length) maxLength;
           }
 
   -- ---- the relay of a steady log
@@ -127,15 +133,12 @@ module _ (R : RelayRound) (good : accepted ≡ firstOf (relayChecks R)) where
     at-good : accepted ≡ firstOf (relayChecks (relayAt R l))
     at-good =
         let w = none-holds (relayChecks R) tt good in
-        let a : Bool = ltb (R .round .reported) (2 ^ R .round .size) in
-        let b : Bool = ltb (R .ahead .reported) (2 ^ R .round .size) in
-        let known = T-and (relayKnown R) (a && b) (true→T _ (not-false (relayKnown R && (a && b)) (w .1 .1 .1 .0))) .0 in
         sym
         (simp (
           w .0,
           w .1 .0,
           w .1 .1 .0,
-          T→true (relayKnown R) known,
+          w .1 .1 .1 .0,
           lt-ltb _ _ (st .sound (l .number) .below),
           lt-ltb _ _ (st .sound (l .number + 1) .below),
           after-sums (R .round .size) true (baseOf R (l .number)) (base-good (l .number)) (framesOf (l .number) (l .counted)),
@@ -162,23 +165,27 @@ module _ (R : RelayRound) (good : accepted ≡ firstOf (relayChecks R)) where
         or-true false = refl
 
         -- held against round n
-        against : (n : ℕ) → firstOf (ownChecks (R .round .size) (roundAt R (l .counted) n) [] f) ≡ rest (eqb (f .number) n) (isReported R (l .counted) n (f .sender))
+        against : (n : ℕ) → firstOf (ownChecks (R .round .size) (roundAt R (l .counted) n) [] f) ≡ rest (eqb (f .number) n)
+            (isReported R (l .counted) n (f .sender))
         against n = own-same (R .round .size) (baseOf R n) (framesOf n (l .counted)) (st .sound n) f
 
         pick : Bool → Code
         pick t = firstOf (ownChecks (R .round .size) (cond t (roundAt R (l .counted) (l .number + 1)) (roundAt R (l .counted) (l .number))) [] f)
 
-        here : (t : Bool) → eqb (f .number) (l .number) ≡ t → rest t (isReported R (l .counted) (l .number) (f .sender)) ≡ rest t (isReported R (l .counted) (f .number) (f .sender))
+        here : (t : Bool) → eqb (f .number) (l .number) ≡ t → rest t (isReported R (l .counted) (l .number) (f .sender)) ≡ rest t
+            (isReported R (l .counted) (f .number) (f .sender))
         here true e = ap (λ (n : ℕ). rest true (isReported R (l .counted) n (f .sender))) (sym (eqb-true (f .number) (l .number) e))
         here false e = refl
 
         go : (t : Bool) → isNext (l .number) (f .number) ≡ t
-            → pick (isNext (l .number) (f .number)) ≡ rest (eqb (f .number) (l .number) || isNext (l .number) (f .number)) (isReported R (l .counted) (f .number) (f .sender))
+            → pick (isNext (l .number) (f .number)) ≡ rest (eqb (f .number) (l .number) || isNext (l .number) (f .number))
+            (isReported R (l .counted) (f .number) (f .sender))
         go true n =
             let e : f .number ≡ l .number + 1 = next-number (l .number) (f .number) n in
             ap pick n
             ∙ against (l .number + 1)
-            ∙ ap₂ rest (eq-eqb (f .number) (l .number + 1) e ∙ sym (or-true (eqb (f .number) (l .number)))) (ap (λ (n : ℕ). isReported R (l .counted) n (f .sender)) (sym e))
+            ∙ ap₂ rest (eq-eqb (f .number) (l .number + 1) e ∙ sym (or-true (eqb (f .number) (l .number))))
+            (ap (λ (n : ℕ). isReported R (l .counted) n (f .sender)) (sym e))
             ∙ ap (λ (t : Bool). rest (eqb (f .number) (l .number) || t) (isReported R (l .counted) (f .number) (f .sender))) (sym n)
         go false n =
             ap pick n
@@ -214,7 +221,11 @@ module _ (R : RelayRound) (good : accepted ≡ firstOf (relayChecks R)) where
           go : (t : Bool) → isNext (l .number) (f .number) ≡ t → f .number ≤ l .number + 1
           go true n = omega (arith, next-number (l .number) (f .number) n)
           go false n =
-              omega (arith, eqb-true (f .number) (l .number) (sym (or-none (eqb (f .number) (l .number))) ∙ ap (λ (t : Bool). eqb (f .number) (l .number) || t) (sym n) ∙ noted .timely))
+              omega (
+                arith,
+                eqb-true (f .number) (l .number)
+                    (sym (or-none (eqb (f .number) (l .number))) ∙ ap (λ (t : Bool). eqb (f .number) (l .number) || t) (sym n) ∙ noted .timely),
+              )
 
       counted-steady : Steady R (log (l .number) (l .counted ++ (f ∷ [])))
       counted-steady =
@@ -248,7 +259,8 @@ module _ (R : RelayRound) (good : accepted ≡ firstOf (relayChecks R)) where
               ∙ ap₂ (λ (X Y : Round). relayRound (R .cluster) X (heldOf Y)) (other-at (l .number) (λ d. absurd (omega arith))) (own-at (l .number + 1) e)
           go false n =
               let e : f .number ≡ l .number =
-              eqb-true (f .number) (l .number) (sym (or-none (eqb (f .number) (l .number))) ∙ ap (λ (t : Bool). eqb (f .number) (l .number) || t) (sym n) ∙ noted .timely) in
+              eqb-true (f .number) (l .number) (sym (or-none (eqb (f .number) (l .number))) ∙ ap (λ (t : Bool). eqb (f .number) (l .number) || t) (sym n)
+              ∙ noted .timely) in
               ap (λ (t : Bool). cond t there here) n
               ∙ ap₂ (λ (X Y : Round). relayRound (R .cluster) X (heldOf Y)) (own-at (l .number) e) (other-at (l .number + 1) (λ d. absurd (omega arith)))
 
@@ -258,7 +270,8 @@ module _ (R : RelayRound) (good : accepted ≡ firstOf (relayChecks R)) where
 
     move-code : moveCode (relayAt R l) ≡ logCode R l moves
     move-code =
-        sym (rest-decides (relayChecks (relayAt R l)) ((not (hasNext (l .number)), code 14) ∷ (not (isFull (R .round .size) (relayAt R l .round) []), code 12) ∷ []) tt at-good)
+        sym (rest-decides (relayChecks (relayAt R l)) ((not (hasNext (l .number)), code 14)
+        ∷ (not (isFull (R .round .size) (relayAt R l .round) []), code 12) ∷ []) tt at-good)
         ∙ ap (λ (t : Bool). cond (not (hasNext (l .number))) (code 14) (cond (not t) (code 12) accepted)) full-at
         ∙ rest-decides (relayChecks R) (logChecks R l moves) tt good
 
@@ -286,7 +299,8 @@ module _ (R : RelayRound) (good : accepted ≡ firstOf (relayChecks R)) where
         empty : heldAs (R .round) n nothing ≡ roundAt R (l .counted) n
         empty =
             ap (λ (h : Held). heldAs (R .round) n h) (sym (held-past R n (omega (arith, st .from))))
-            ∙ after-none (R .round .size) true (baseOf R n) (base-good n) (ap (λ (h : Held). length (h .sums)) (held-past R n (omega (arith, st .from))) ∙ length-zeros 64)
+            ∙ after-none (R .round .size) true (baseOf R n) (base-good n)
+            (ap (λ (h : Held). length (h .sums)) (held-past R n (omega (arith, st .from))) ∙ length-zeros maxLength)
             ∙ ap (after (baseOf R n)) (sym (st .none n (omega arith)))
 
     next-same : (e : Event) → (nextOf (relayAt R l) e ≡ relayAt R (logNext R l e)) × Steady R (logNext R l e)
@@ -298,7 +312,8 @@ module _ (R : RelayRound) (good : accepted ≡ firstOf (relayChecks R)) where
         first : relayNext (relayAt R l) f ≡ ifAccepted (logCode R l (heard f)) (relayCounted (relayAt R l) f) (relayAt R l)
         first = ap (λ (c : Code). ifAccepted c (relayCounted (relayAt R l) f) (relayAt R l)) (heard-code f)
 
-        go : (t : Bool) → isAccepted (logCode R l (heard f)) ≡ t → (relayNext (relayAt R l) f ≡ relayAt R (logNext R l (heard f))) × Steady R (logNext R l (heard f))
+        go : (t : Bool) → isAccepted (logCode R l (heard f)) ≡ t → (relayNext (relayAt R l) f ≡ relayAt R (logNext R l (heard f))) × Steady R
+            (logNext R l (heard f))
         go true n =
             let is : logNext R l (heard f) ≡ next = ap (λ (t : Bool). cond t next l) n in
             let noted = noted-known R l f (number-accepts (relayChecks R ++ logChecks R l (heard f)) tt n) in (
@@ -331,7 +346,8 @@ module _ (R : RelayRound) (good : accepted ≡ firstOf (relayChecks R)) where
     next-same (asks out) = (refl, st)
 
   run-same : (events : List Event) (l : Log) → Steady R l
-      → (relayAnswers (relayAt R l) events ≡ logAnswers R l events) × (relayRun (relayAt R l) events ≡ relayAt R (logAfter R l events)) × Steady R (logAfter R l events)
+      → (relayAnswers (relayAt R l) events ≡ logAnswers R l events) × (relayRun (relayAt R l) events ≡ relayAt R (logAfter R l events)) × Steady R
+      (logAfter R l events)
   unfolding relayAnswers relayRun logAnswers logAfter
   run-same [] l st = (refl, refl, st)
   run-same (e ∷ events) l st =
@@ -345,20 +361,22 @@ module _ (R : RelayRound) (good : accepted ≡ firstOf (relayChecks R)) where
   start-steady =
       record { from = omega arith; sound = λ n. sound-none (R .round .size) (baseOf R n) (base-good n); none = λ n h. refl }
 
-  module _ (here : length (R .round .sums) ≡ 64) (there : length (R .ahead .sums) ≡ 64) where
+  module _ (here : length (R .round .sums) ≡ maxLength) (there : length (R .ahead .sums) ≡ maxLength) where
     start-at : R ≡ relayAt R (log (R .round .number) [])
     unfolding framesOf
     start-at =
         ap₂ (λ (X : Round) (h : Held). relayRound (R .cluster) X h)
         (sym (base-here R) ∙ after-none (R .round .size) true (baseOf R r₀) (base-good r₀) (ap (λ (X : Round). length (X .sums)) (base-here R) ∙ here))
-        (sym (held-there R) ∙ ap heldOf (after-none (R .round .size) true (baseOf R (r₀ + 1)) (base-good (r₀ + 1)) (ap (λ (h : Held). length (h .sums)) (held-there R) ∙ there)))
+        (sym (held-there R) ∙ ap heldOf (after-none (R .round .size) true (baseOf R (r₀ + 1)) (base-good (r₀ + 1))
+        (ap (λ (h : Held). length (h .sums)) (held-there R) ∙ there)))
       where
         r₀ : ℕ
         r₀ = R .round .number
 
     -- a good state and its log
     pub good-events : (events : List Event)
-        → (relayAnswers R events ≡ logAnswers R (log (R .round .number) []) events) × (relayRun R events ≡ relayAt R (logOf R events)) × Steady R (logOf R events)
+        → (relayAnswers R events ≡ logAnswers R (log (R .round .number) []) events) × (relayRun R events ≡ relayAt R (logOf R events)) × Steady R
+        (logOf R events)
     good-events events =
         let (a, x, s) = run-same events (log (R .round .number) []) start-steady in
         (ap (λ (X : RelayRound). relayAnswers X events) start-at ∙ a, ap (λ (X : RelayRound). relayRun X events) start-at ∙ x, s)
@@ -381,7 +399,8 @@ module _ (R : RelayRound) (bad : isAccepted (firstOf (relayChecks R)) ≡ false)
   bad-told : (l : Log) (e : Event) → told R e ≡ logTold R l e
   bad-told l (heard f) = ap (λ (c : Code). (c, [])) (same-refusal (ownChecks (R .round .size) (roundFor R f) [] f) (logChecks R l (heard f)))
   bad-told l moves =
-      ap (λ (c : Code). (c, [])) (same-refusal ((not (hasNext (R .round .number)), code 14) ∷ (not (isFull (R .round .size) (R .round) []), code 12) ∷ []) (logChecks R l moves))
+      ap (λ (c : Code). (c, [])) (same-refusal ((not (hasNext (R .round .number)), code 14) ∷ (not (isFull (R .round .size) (R .round) []), code 12) ∷ [])
+      (logChecks R l moves))
   bad-told l (asks out) =
       let own = lentChecks (R .round .size) (R .round) [] (length out) in
       ap₂ (λ (c : Code) (o : List ℕ). (c, o)) (same-refusal own (logChecks R l (asks out)))
@@ -411,7 +430,7 @@ module _ (R : RelayRound) (bad : isAccepted (firstOf (relayChecks R)) ≡ false)
 
 -- ---- for every state, good or bad, and every list of events
 
-pub relay-ledger : (R : RelayRound) → length (R .round .sums) ≡ 64 → length (R .ahead .sums) ≡ 64 → (events : List Event)
+pub relay-ledger : (R : RelayRound) → length (R .round .sums) ≡ maxLength → length (R .ahead .sums) ≡ maxLength → (events : List Event)
     → (relayAnswers R events ≡ logAnswers R (log (R .round .number) []) events)
     × (relayRun R events ≡ ifAccepted (firstOf (relayChecks R)) (relayAt R (logOf R events)) R)
 relay-ledger R here there events = go (isAccepted (firstOf (relayChecks R))) refl

@@ -28,6 +28,7 @@ use Rattle.rounds.proofs.CheckLaws.{opening-known}
 use Rattle.rounds.proofs.RelayLedger.{frames-own, frames-other, Noted, noted-known, good-events, log-give}
 use Rattle.rounds.proofs.RoundLaws.{Tidy, tidy-none, tidy-more, heard-named, full-named, counted-block, heard-block, turn-given}
 use Rattle.rounds.proofs.Zeros.{zeros-fit}
+use Rattle.plans.specs.Plans.{maxLength}
 
 module _ (clusters size q L cluster number : ℕ) (pass : accepted ≡ firstOf (openChecks clusters size q L (oneOf clusters cluster))) where
   abbrev pub R : RelayRound
@@ -45,16 +46,17 @@ module _ (clusters size q L cluster number : ℕ) (pass : accepted ≡ firstOf (
         w .0,
         w .1 .0,
         w .1 .1 .0,
-        not-false (oneOf clusters cluster) (w .1 .1 .1 .0),
+        w .1 .1 .1 .0,
         lt-ltb 0 (2 ^ size) (pow-pos size),
-        zeros-fit q L 64 (prime-pos (known-opening .prime)),
+        zeros-fit q L maxLength (prime-pos (known-opening .prime)),
       ))
 
   -- it held nothing, for whatever round
   base-is : (n : ℕ) → baseOf R n ≡ opened clusters size q L n
   base-is n = go (eqb n number) (eqb n (number + 1))
     where
-      go : (s t : Bool) → heldAs (opened clusters size q L number) n (cond s (heldOf (opened clusters size q L number)) (cond t nothing nothing)) ≡ opened clusters size q L n
+      go : (s t : Bool) → heldAs (opened clusters size q L number) n (cond s (heldOf (opened clusters size q L number)) (cond t nothing nothing))
+          ≡ opened clusters size q L n
       go true t = refl
       go false true = refl
       go false false = refl
@@ -65,7 +67,8 @@ module _ (clusters size q L cluster number : ℕ) (pass : accepted ≡ firstOf (
   tidy-log [] l tidy = tidy
   tidy-log (e ∷ events) l tidy = tidy-log events (logNext R l e) (step e)
     where
-      heard-step : (f : Frame) (t : Bool) → isAccepted (logCode R l (heard f)) ≡ t → (n : ℕ) → Tidy size (framesOf n (cond t (log (l .number) (l .counted ++ (f ∷ []))) l .counted))
+      heard-step : (f : Frame) (t : Bool) → isAccepted (logCode R l (heard f)) ≡ t → (n : ℕ) → Tidy size
+          (framesOf n (cond t (log (l .number) (l .counted ++ (f ∷ []))) l .counted))
       heard-step f false e n = tidy n
       heard-step f true e n = go (ℕ-discrete (f .number) n)
         where
@@ -104,12 +107,12 @@ module _ (clusters size q L cluster number : ℕ) (pass : accepted ≡ firstOf (
 
     pub answers-are : relayAnswers R events ≡ logAnswers R (log number []) events
     answers-are =
-        let (a, x, s) = good-events R opened-good (length-zeros 64) (length-zeros 64) events in
+        let (a, x, s) = good-events R opened-good (length-zeros maxLength) (length-zeros maxLength) events in
         a
 
     pub run-is : relayRun R events ≡ relayAt R (logOf R events)
     run-is =
-        let (a, x, s) = good-events R opened-good (length-zeros 64) (length-zeros 64) events in
+        let (a, x, s) = good-events R opened-good (length-zeros maxLength) (length-zeros maxLength) events in
         x
 
     pub tidy-counted : (n : ℕ) → Tidy size (counted n)
@@ -130,16 +133,18 @@ module _ (clusters size q L cluster number : ℕ) (pass : accepted ≡ firstOf (
         ∙ counted-block clusters size q L (now + 1) (known-opening .few-length) (counted (now + 1))
 
     -- 12 exactly where not everyone is named among the frames counted of this round
-    pub relay-give-code : (out : List ℕ) → relayGiveCode (relayRun R events) out ≡ cond (everyone size (counted now)) (cond (eqb (length out) L) accepted (code 4)) (code 12)
+    pub relay-give-code : (out : List ℕ) → relayGiveCode (relayRun R events) out ≡ cond (everyone size (counted now))
+        (cond (eqb (length out) L) accepted (code 4)) (code 12)
     relay-give-code out =
-        log-give R opened-good (length-zeros 64) (length-zeros 64) events out
+        log-give R opened-good (length-zeros maxLength) (length-zeros maxLength) events out
         ∙ sym (rest-decides (relayChecks R) (logChecks R (logOf R events) (asks out)) tt opened-good)
         ∙ ap (λ (t : Bool). cond (not t) (code 12) (cond (not (eqb (length out) L)) (code 4) accepted))
         (ap (λ (X : Round). isFull size X (counted now)) (base-is now) ∙ full-named clusters size q L now size (counted now))
         ∙ turn-given (everyone size (counted now)) (eqb (length out) L)
 
     -- what is written where the sums are given out
-    pub relay-sums-sorted : (out : List ℕ) → relaySums (relayRun R events) out ≡ ifAccepted (relayGiveCode (relayRun R events) out) (tab L (λ p. countedAt (counted now) p % q)) out
+    pub relay-sums-sorted : (out : List ℕ) → relaySums (relayRun R events) out ≡ ifAccepted (relayGiveCode (relayRun R events) out)
+        (tab L (λ p. countedAt (counted now) p % q)) out
     relay-sums-sorted out =
         let X : RelayRound = relayRun R events in
         ap (λ (s : List ℕ). ifAccepted (relayGiveCode X out) s out)
@@ -161,7 +166,8 @@ module _ (clusters size q L cluster number : ℕ) (pass : accepted ≡ firstOf (
       )
 
     -- where the frames counted of this round carry their senders' blocks, these are the sums of everyone's block
-    pub relay-heard : (B : ℕ → List ℕ) → Heard size B (counted now) → take L (relayRun R events .round .sums) ≡ tab L (λ p. sumTo size (λ v. at (B (suc v)) p) % q)
+    pub relay-heard : (B : ℕ → List ℕ) → Heard size B (counted now) → take L (relayRun R events .round .sums) ≡ tab L
+        (λ p. sumTo size (λ v. at (B (suc v)) p) % q)
     relay-heard B h =
         ap (λ (X : RelayRound). take L (X .round .sums)) run-is
         ∙ ap (λ (X : Round). take L (after X (counted now) .sums)) (base-is now)

@@ -25,12 +25,14 @@ use Rattle.lists.proofs.ListLaws.{at-tab, tab-at, tab-cong, length-tab, el-zero
 use Rattle.rounds.specs.declared.Round.{Round}
 use Rattle.rounds.specs.Ledger.{Frame, named, countedAt, everyone, Carries, Heard}
 use Rattle.rounds.specs.Machine.{Opening}
-use Rattle.rounds.specs.Rounds.{openChecks, opened, after, isFull, stateChecks, hasReported, lentChecks, frameChecks, giveCode, sumsAfter, runOf, noted, ledgerOf}
+use Rattle.rounds.specs.Rounds.{openChecks, opened, after, isFull, stateChecks, hasReported, lentChecks, frameChecks, giveCode, sumsAfter, runOf}
+use Rattle.rounds.specs.Rounds.{noted, ledgerOf}
 use Rattle.rounds.proofs.CheckLaws.{opening-known, Passed, frame-known}
 use Rattle.rounds.proofs.ReportedLaws.{no-bits}
 use Rattle.rounds.proofs.StepLaws.{all-cong, or-none}
 use Rattle.rounds.proofs.LedgerLaws.{named-more, counted-more, good-run, ledger-give}
 use Rattle.rounds.proofs.Zeros.{zeros-fit}
+use Rattle.plans.specs.Plans.{maxLength}
 
 -- ---- sums of those who are named
 
@@ -48,7 +50,8 @@ sum-more (suc n) b c g i h out is others = go (ℕ-discrete i n) (λ l. sum-more
         → sumTo n (λ v. cond (c v) (g v) 0) + cond (c n) (g n) 0 ≡ sumTo n (λ v. cond (b v) (g v) 0) + cond (b n) (g n) 0 + g i
     go (yes e) ih =
         let low : sumTo n (λ v. cond (c v) (g v) 0) ≡ sumTo n (λ v. cond (b v) (g v) 0) =
-        sum-cong n (λ v. cond (c v) (g v) 0) (λ v. cond (b v) (g v) 0) (λ k l. ap (λ (t : Bool). cond t (g k) 0) (others k (omega arith) (λ d. absurd (omega arith)))) in
+        sum-cong n (λ v. cond (c v) (g v) 0) (λ v. cond (b v) (g v) 0)
+        (λ k l. ap (λ (t : Bool). cond t (g k) 0) (others k (omega arith) (λ d. absurd (omega arith)))) in
         let new : cond (c n) (g n) 0 ≡ g i = ap (λ (t : Bool). cond t (g n) 0) (ap c (sym e) ∙ is) ∙ ap g (sym e) in
         let old : cond (b n) (g n) 0 ≡ 0 = ap (λ (t : Bool). cond t (g n) 0) (ap b (sym e) ∙ out) in
         omega arith
@@ -72,7 +75,8 @@ module _ (senders : ℕ) where
   unfolding countedAt named
   tidy-none B c p = sym (sum-zero senders (λ v. 0) (λ k l. refl))
 
-  pub tidy-more : (ledger : List Frame) (f : Frame) → Tidy senders ledger → 1 ≤ f .sender → f .sender ≤ senders → named ledger (f .sender) ≡ false → Tidy senders (ledger ++ (f ∷ []))
+  pub tidy-more : (ledger : List Frame) (f : Frame) → Tidy senders ledger → 1 ≤ f .sender → f .sender ≤ senders → named ledger (f .sender) ≡ false
+      → Tidy senders (ledger ++ (f ∷ []))
   tidy-more ledger f tidy some few new B c p =
       let i : ℕ = f .sender - 1 in
       let s : suc i ≡ f .sender = omega arith in
@@ -83,7 +87,8 @@ module _ (senders : ℕ) where
       ∙ sym
       (sum-more senders (λ v. named ledger (suc v)) (λ v. named (ledger ++ (f ∷ [])) (suc v)) (λ v. at (B (suc v)) p) i (omega arith) out
       (named-more ledger f (suc i) ∙ ap₂ _||_ out (eq-eqb (f .sender) (suc i) (sym s)))
-      (λ k l ne. named-more ledger f (suc k) ∙ ap (λ (t : Bool). named ledger (suc k) || t) (ne-eqb (f .sender) (suc k) (λ e. ne (omega arith))) ∙ or-none (named ledger (suc k))))
+      (λ k l ne. named-more ledger f (suc k) ∙ ap (λ (t : Bool). named ledger (suc k) || t) (ne-eqb (f .sender) (suc k) (λ e. ne (omega arith))) ∙ or-none
+      (named ledger (suc k))))
 
   -- the order does not matter: where the same senders are counted, each with the same block, so is the same
   pub order-free : (B : ℕ → List ℕ) (a b : List Frame) → Tidy senders a → Tidy senders b → All (Carries B) a → All (Carries B) b
@@ -95,11 +100,13 @@ module _ (senders : ℕ) where
       ∙ sym (tidy′ B c′ p)
 
   -- everyone is counted
-  pub heard-counted : (B : ℕ → List ℕ) (ledger : List Frame) → Tidy senders ledger → Heard senders B ledger → (p : ℕ) → countedAt ledger p ≡ sumTo senders (λ v. at (B (suc v)) p)
+  pub heard-counted : (B : ℕ → List ℕ) (ledger : List Frame) → Tidy senders ledger → Heard senders B ledger → (p : ℕ) → countedAt ledger p ≡ sumTo senders
+      (λ v. at (B (suc v)) p)
   heard-counted B ledger tidy h p =
       tidy B (h .carried) p
       ∙ sum-cong senders (λ v. cond (named ledger (suc v)) (at (B (suc v)) p) 0) (λ v. at (B (suc v)) p)
-      (λ v l. ap (λ (t : Bool). cond t (at (B (suc v)) p) 0) (T→true (named ledger (suc v)) (all-at senders (λ i. named ledger (suc i)) (true→T (everyone senders ledger) (h .full)) v l)))
+      (λ v l. ap (λ (t : Bool). cond t (at (B (suc v)) p) 0)
+      (T→true (named ledger (suc v)) (all-at senders (λ i. named ledger (suc i)) (true→T (everyone senders ledger) (h .full)) v l)))
 
 -- ---- an opened round and a ledger
 
@@ -113,24 +120,25 @@ module _ (clusters size q L number : ℕ) where
       all-cong senders (λ i. hasReported (opened clusters size q L number) ledger (suc i)) (λ i. named ledger (suc i)) (λ i l. heard-named ledger (suc i))
 
   -- the sums were 0, so that they are what was counted
-  pub counted-block : L ≤ 64 → (ledger : List Frame) → take L (after (opened clusters size q L number) ledger .sums) ≡ tab L (λ p. countedAt ledger p % q)
+  pub counted-block : L ≤ maxLength → (ledger : List Frame) → take L (after (opened clusters size q L number) ledger .sums) ≡ tab L
+      (λ p. countedAt ledger p % q)
   counted-block few ledger =
       let S : List ℕ = after (opened clusters size q L number) ledger .sums in
       sym
-      (tab-at L (λ p. countedAt ledger p % q) (take L S) (length-take-le L S (omega (arith, length-tab 64 entry)))
+      (tab-at L (λ p. countedAt ledger p % q) (take L S) (length-take-le L S (omega (arith, length-tab maxLength entry)))
       (λ k h.
       sym
       (getD-take L S k 0 h
-      ∙ at-tab 64 entry k (omega arith)
-      ∙ ap (λ (t : Bool). cond t ((at (zeros 64) k + countedAt ledger k) % q) 0) (lt-ltb k L h)
-      ∙ ap (λ (z : ℕ). (z + countedAt ledger k) % q) (el-zeros 64 k)
+      ∙ at-tab maxLength entry k (omega arith)
+      ∙ ap (λ (t : Bool). cond t ((at (zeros maxLength) k + countedAt ledger k) % q) 0) (lt-ltb k L h)
+      ∙ ap (λ (z : ℕ). (z + countedAt ledger k) % q) (el-zeros maxLength k)
       ∙ ap (λ (z : ℕ). z % q) (zero-add (countedAt ledger k)))))
     where
       entry : ℕ → ℕ
-      entry k = cond (ltb k L) ((at (zeros 64) k + countedAt ledger k) % q) 0
+      entry k = cond (ltb k L) ((at (zeros maxLength) k + countedAt ledger k) % q) 0
 
   -- and once everyone is counted they are the sums of everyone's block
-  pub heard-block : L ≤ 64 → (senders : ℕ) (B : ℕ → List ℕ) (ledger : List Frame) → Tidy senders ledger → Heard senders B ledger
+  pub heard-block : L ≤ maxLength → (senders : ℕ) (B : ℕ → List ℕ) (ledger : List Frame) → Tidy senders ledger → Heard senders B ledger
       → take L (after (opened clusters size q L number) ledger .sums) ≡ tab L (λ p. sumTo senders (λ v. at (B (suc v)) p) % q)
   heard-block few senders B ledger tidy h =
       counted-block few ledger
@@ -161,9 +169,9 @@ module _ (senders : ℕ) (known : Bool) (clusters size q L number : ℕ) (pass :
         w .0,
         w .1 .0,
         w .1 .1 .0,
-        not-false known (w .1 .1 .1 .0),
+        w .1 .1 .1 .0,
         lt-ltb 0 (2 ^ senders) (pow-pos senders),
-        zeros-fit q L 64 (prime-pos (known-opening .prime)),
+        zeros-fit q L maxLength (prime-pos (known-opening .prime)),
       ))
 
   tidy-run : (frames ledger : List Frame) → Tidy senders ledger → Tidy senders (ledgerOf senders known R ledger frames)
@@ -185,19 +193,21 @@ module _ (senders : ℕ) (known : Bool) (clusters size q L number : ℕ) (pass :
 
     run-is : runOf senders known R frames ≡ after R counted
     run-is =
-        let (a, r, s) = good-run senders known R opened-state (length-zeros 64) frames in
+        let (a, r, s) = good-run senders known R opened-state (length-zeros maxLength) frames in
         r
 
     -- 12 exactly where not everyone is named on the ledger
-    pub give-code : (out : List ℕ) → giveCode senders known (runOf senders known R frames) out ≡ cond (everyone senders counted) (cond (eqb (length out) L) accepted (code 4)) (code 12)
+    pub give-code : (out : List ℕ) → giveCode senders known (runOf senders known R frames) out ≡ cond (everyone senders counted)
+        (cond (eqb (length out) L) accepted (code 4)) (code 12)
     give-code out =
-        ledger-give senders known R (length-zeros 64) frames out .0
+        ledger-give senders known R (length-zeros maxLength) frames out .0
         ∙ sym (rest-decides (stateChecks senders known R) (lentChecks senders R counted (length out)) tt opened-state)
         ∙ ap (λ (t : Bool). cond (not t) (code 12) (cond (not (eqb (length out) L)) (code 4) accepted)) (full-named clusters size q L number senders counted)
         ∙ turn-given (everyone senders counted) (eqb (length out) L)
 
     -- the sums are those of everyone's block
-    pub full-block : (B : ℕ → List ℕ) → Heard senders B counted → take L (runOf senders known R frames .sums) ≡ tab L (λ p. sumTo senders (λ v. at (B (suc v)) p) % q)
+    pub full-block : (B : ℕ → List ℕ) → Heard senders B counted → take L (runOf senders known R frames .sums) ≡ tab L
+        (λ p. sumTo senders (λ v. at (B (suc v)) p) % q)
     full-block B h =
         ap (λ (X : Round). take L (X .sums)) run-is
         ∙ heard-block clusters size q L number (known-opening .few-length) senders B counted (tidy-run frames [] (tidy-none senders)) h

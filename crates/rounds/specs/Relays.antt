@@ -8,14 +8,14 @@ use lib.Dec.{ltb, eqb}
 use lib.ListN.{length, take}
 use Rattle.refusals.specs.declared.Code.{Code}
 use Rattle.refusals.specs.Codes.{code, firstOf, ifAccepted}
-use Rattle.residues.specs.Primes.{isPrime, allBelow}
+use Rattle.residues.specs.Primes.{allBelow}
 use Rattle.lists.specs.Lists.{zeros}
-use Rattle.plans.specs.Plans.{countsFit, lengthFits}
 use Rattle.rounds.specs.declared.Held.{Held}
 use Rattle.rounds.specs.declared.Round.{Round}
 use Rattle.rounds.specs.declared.RelayRound.{RelayRound}
 use Rattle.rounds.specs.Ledger.{Frame, framesOf}
-use Rattle.rounds.specs.Rounds.{oneOf, openCode, opened, noRound, hasReported, after, sumsFit, ownChecks, isFull, lentChecks}
+use Rattle.rounds.specs.Rounds.{oneOf, openChecks, openCode, opened, noRound, hasReported, after, sumsFit, ownChecks, isFull, lentChecks}
+use Rattle.plans.specs.Plans.{maxLength}
 
 -- ---- what a relay holds
 
@@ -30,7 +30,7 @@ abbrev pub heldOf : Round → Held
 heldOf R = held (R .reported) (R .sums)
 
 abbrev pub nothing : Held
-nothing = held 0 (zeros 64)
+nothing = held 0 (zeros maxLength)
 
 -- a round with what it holds taken from elsewhere, and another number
 abbrev pub heldAs : Round → ℕ → Held → Round
@@ -51,14 +51,15 @@ relayKnown R = oneOf (R .round .clusters) (R .cluster)
 
 -- ---- a state that is handed in: "in the order 1, 2, 9, 8, 3", of both rolls and both rows of sums
 
-abbrev pub relayChecks : RelayRound → List (Bool × Code)
-relayChecks R =
-    (not (countsFit (R .round .clusters) (R .round .size) 0), code 1)
-    ∷ (not (isPrime (R .round .q)), code 2)
-    ∷ (not (lengthFits (R .round .length)), code 9)
-    ∷ (not (relayKnown R && (ltb (R .round .reported) (2 ^ R .round .size) && ltb (R .ahead .reported) (2 ^ R .round .size))), code 8)
+abbrev pub relayContents : RelayRound → List (Bool × Code)
+relayContents R =
+    (not (ltb (R .round .reported) (2 ^ R .round .size) && ltb (R .ahead .reported) (2 ^ R .round .size)), code 8)
     ∷ (not (sumsFit (R .round .q) (R .round .length) (R .round .sums) && sumsFit (R .round .q) (R .round .length) (R .ahead .sums)), code 3)
     ∷ []
+
+abbrev pub relayChecks : RelayRound → List (Bool × Code)
+relayChecks R =
+    openChecks (R .round .clusters) (R .round .size) (R .round .q) (R .round .length) (relayKnown R) ++ relayContents R
 
 -- ---- a call of `count`
 

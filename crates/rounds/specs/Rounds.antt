@@ -13,7 +13,7 @@ use Rattle.lists.specs.Search.{allTo}
 use Rattle.lists.specs.Bits.{hasBit}
 use Rattle.residues.specs.Primes.{isPrime, allBelow}
 use Rattle.lists.specs.Lists.{at, zeros, tab}
-use Rattle.plans.specs.Plans.{countsFit, lengthFits}
+use Rattle.plans.specs.Plans.{countsFit, lengthFits, maxLength}
 use Rattle.rounds.specs.declared.Round.{Round}
 use Rattle.rounds.specs.declared.ServerRound.{ServerRound}
 use Rattle.rounds.specs.Ledger.{Frame, named, bitsOf, countedAt}
@@ -34,7 +34,7 @@ openChecks clusters size q L known =
 
 abbrev pub opened : ℕ → ℕ → ℕ → ℕ → ℕ → Round
 opened clusters size q L number =
-    record { clusters = clusters; size = size; q = q; length = L; number = number; reported = 0; sums = zeros 64 }
+    record { clusters = clusters; size = size; q = q; length = L; number = number; reported = 0; sums = zeros maxLength }
 
 -- what a refused opening hands back
 abbrev pub noRound : Round
@@ -63,7 +63,7 @@ after R ledger =
       length = R .length;
       number = R .number;
       reported = R .reported + bitsOf ledger;
-      sums = tab 64 (λ p. cond (ltb p (R .length)) ((at (R .sums) p + countedAt ledger p) % R .q) 0);
+      sums = tab maxLength (λ p. cond (ltb p (R .length)) ((at (R .sums) p + countedAt ledger p) % R .q) 0);
     }
 
 -- ---- a state that is handed in: "in the order 1, 2, 9, 8, 3; a roll bit that is no sender's is 8, a sum past position L other than 0 is 3"
@@ -72,6 +72,10 @@ abbrev pub sumsFit : ℕ → ℕ → List ℕ → Bool
 sumsFit q L sums = allBelow q (take L sums) && allBelow 1 (drop L sums)
 
 module _ (senders : ℕ) where
+  -- who has reported, and the sums
+  abbrev pub contentChecks : Round → List (Bool × Code)
+  contentChecks R = (not (ltb (R .reported) (2 ^ senders)), code 8) ∷ (not (sumsFit (R .q) (R .length) (R .sums)), code 3) ∷ []
+
   -- what a frame is asked once the state is good; document 02, Q-3: "The order for a frame into a round becomes 8, 14, 4, 3, 11."
   abbrev pub ownChecks : Round → List Frame → Frame → List (Bool × Code)
   ownChecks R ledger f =
@@ -92,13 +96,7 @@ module _ (senders : ℕ) where
 
 module _ (senders : ℕ) (known : Bool) where
   abbrev pub stateChecks : Round → List (Bool × Code)
-  stateChecks R =
-      (not (countsFit (R .clusters) (R .size) 0), code 1)
-      ∷ (not (isPrime (R .q)), code 2)
-      ∷ (not (lengthFits (R .length)), code 9)
-      ∷ (not (known && ltb (R .reported) (2 ^ senders)), code 8)
-      ∷ (not (sumsFit (R .q) (R .length) (R .sums)), code 3)
-      ∷ []
+  stateChecks R = openChecks (R .clusters) (R .size) (R .q) (R .length) known ++ contentChecks senders R
 
   abbrev pub frameChecks : Round → List Frame → Frame → List (Bool × Code)
   frameChecks R ledger f = stateChecks R ++ ownChecks senders R ledger f

@@ -5,8 +5,9 @@ ghost use Prim.Native.Nat.{_≤_};
 ghost use Rattle.refusals.specs.Codes.{firstOf, verdictCode};
 ghost use Rattle.rounds.specs.Ledger.{frame};
 ghost use Rattle.rounds.specs.Rounds.{oneOf, openCode};
-ghost use Rattle.rounds.specs.Relays.{relayKnown, relayOpened, heldAs, relayChecks, isNext, relayCode, relayNext, moveCode, moved, relayGiveCode, relaySums};
-ghost use Rattle.rounds.specs.Machine.{relayContents};
+ghost use Rattle.rounds.specs.Relays.{relayKnown, relayOpened, heldAs, relayContents, relayChecks, isNext, relayCode, relayNext};
+ghost use Rattle.rounds.specs.Relays.{moveCode, moved, relayGiveCode, relaySums};
+ghost use Rattle.plans.specs.Plans.{maxLength};
 use crate::Held;
 use crate::RelayRound;
 use crate::RelayStep;
@@ -78,7 +79,7 @@ impl RelayRound {
 
     // Who has reported, here and ahead, and the sums: 8, 3.
     fn check_contents(self) -> Verdict
-        requires { ⌜ (self .round .size ≤ 8) × (self .round .length ≤ 64) ⌝ }
+        requires { ⌜ (self .round .size ≤ 8) × (self .round .length ≤ maxLength) ⌝ }
         ensures { λ r. ⌜ verdictCode r ≡ firstOf (relayContents self) ⌝ }
     {
         let round = self.round;

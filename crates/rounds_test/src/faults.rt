@@ -54,7 +54,8 @@ fn sums_number(sums: &[Symbol], q: usize, length: usize, otherwise: usize) -> us
     number
 }
 
-// A state that is handed in: 1, 2, 9, 8, 3, a relay's of both rolls and both rows of sums. Where the counts are within their bounds there are at most 8 senders.
+// A state that is handed in: 1, 2, 9, 8, 3, a relay's of both rolls and both rows of sums. Where the counts are within their bounds there are at most 8
+// senders.
 pub fn state_number(server: bool, s: RelayRound, otherwise: usize) -> usize {
     let round = s.round;
     let sums = round.sums;

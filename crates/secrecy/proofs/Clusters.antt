@@ -20,7 +20,7 @@ use Rattle.secrecy.specs.Model.{Pool, users, inCoalition, ZeroSum, colum
 use Rattle.lists.proofs.Sums.{sum-cong, sum-zero}
 use Rattle.lists.proofs.ListLaws.{at-tab, length-tab}
 use Rattle.secrecy.proofs.Units.{unit, addTo, dot-addTo, dot-units-one, dot-units-none, el-addTo, dot-null}
-use Rattle.secrecy.proofs.RankCondition.{row, sumRow, opened, tested}
+use Rattle.secrecy.proofs.RankCondition.{row, sumRow, hasOutsider, tested}
 use Rattle.secrecy.proofs.PoolForms.{sumForm}
 
 module _ (P : Pool) where
@@ -71,37 +71,38 @@ module _ (P : Pool) where
   -- ---- which clusters are tested
 
   module _ (g : ℕ) where
-    -- in an open cluster some user is outside the coalition
-    pub opened-by : (u : ℕ) → T (opened P g u) → (v : ℕ) × (v < P .size) × (¬ (T (inCoalition g (u * P .size + v))))
-    unfolding opened
-    opened-by u t =
+    -- a cluster that has an outsider: a user outside the coalition
+    pub outsider-of : (u : ℕ) → T (hasOutsider P g u) → (v : ℕ) × (v < P .size) × (¬ (T (inCoalition g (u * P .size + v))))
+    unfolding hasOutsider
+    outsider-of u t =
         not-all (P .size) (λ v. inCoalition g (u * P .size + v)) (T-not (allTo (P .size) (λ v. inCoalition g (u * P .size + v))) t)
 
-    -- in one that is not open none is
-    pub closed-all : (u : ℕ) → ¬ (T (opened P g u)) → (v : ℕ) → v < P .size → T (inCoalition g (u * P .size + v))
-    unfolding opened
+    -- in one that has none every user is in the coalition
+    pub closed-all : (u : ℕ) → ¬ (T (hasOutsider P g u)) → (v : ℕ) → v < P .size → T (inCoalition g (u * P .size + v))
+    unfolding hasOutsider
     closed-all u t = go (T-decide (allTo (P .size) (λ v. inCoalition g (u * P .size + v))))
       where
         go : Dec (T (allTo (P .size) (λ v. inCoalition g (u * P .size + v)))) → (v : ℕ) → v < P .size → T (inCoalition g (u * P .size + v))
         go (yes h) = all-at (P .size) (λ v. inCoalition g (u * P .size + v)) h
         go (no h) = absurd (t (not-T (allTo (P .size) (λ v. inCoalition g (u * P .size + v))) h))
 
-    -- a tested cluster is open
-    pub tested-opened : (u : ℕ) → T (tested P g u) → T (opened P g u)
+    -- a tested cluster has an outsider
+    pub tested-outsider : (u : ℕ) → T (tested P g u) → T (hasOutsider P g u)
     unfolding tested
-    tested-opened u t = T-and (opened P g u) (anyTo (P .clusters) (λ w. ltb u w && opened P g w)) t .0
+    tested-outsider u t = T-and (hasOutsider P g u) (anyTo (P .clusters) (λ w. ltb u w && hasOutsider P g w)) t .0
 
     -- and one after it is
-    pub tested-later : (u : ℕ) → T (tested P g u) → (w : ℕ) × (w < P .clusters) × (u < w) × T (opened P g w)
+    pub tested-later : (u : ℕ) → T (tested P g u) → (w : ℕ) × (w < P .clusters) × (u < w) × T (hasOutsider P g w)
     unfolding tested
     tested-later u t =
-        let (w, h, s) = any-found (P .clusters) (λ w. ltb u w && opened P g w) (T-and (opened P g u) (anyTo (P .clusters) (λ w. ltb u w && opened P g w)) t .1) in
-        let (a, b) = T-and (ltb u w) (opened P g w) s in
+        let (w, h, s) = any-found (P .clusters) (λ w. ltb u w && hasOutsider P g w)
+        (T-and (hasOutsider P g u) (anyTo (P .clusters) (λ w. ltb u w && hasOutsider P g w)) t .1) in
+        let (a, b) = T-and (ltb u w) (hasOutsider P g w) s in
         (w, h, ltb→lt u w a, b)
 
-    -- of two open clusters the first is tested
-    pub made-tested : (u w : ℕ) → w < P .clusters → u < w → T (opened P g u) → T (opened P g w) → T (tested P g u)
+    -- of two with outsiders the first is tested
+    pub made-tested : (u w : ℕ) → w < P .clusters → u < w → T (hasOutsider P g u) → T (hasOutsider P g w) → T (tested P g u)
     unfolding tested
     made-tested u w h l a b =
-        and-T (opened P g u) (anyTo (P .clusters) (λ w. ltb u w && opened P g w)) a
-        (any-at (P .clusters) (λ w. ltb u w && opened P g w) w h (and-T (ltb u w) (opened P g w) (lt→ltb u w l) b))
+        and-T (hasOutsider P g u) (anyTo (P .clusters) (λ w. ltb u w && hasOutsider P g w)) a
+        (any-at (P .clusters) (λ w. ltb u w && hasOutsider P g w) w h (and-T (ltb u w) (hasOutsider P g w) (lt→ltb u w l) b))

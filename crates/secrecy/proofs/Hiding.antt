@@ -16,7 +16,7 @@ use Rattle.matrices.specs.Rank.{sameList}
 use Rattle.lists.proofs.Members.{all-map}
 use Rattle.matrices.proofs.Vectors.{dot-scaled, dot-zeroed, dot-reduced, length-scale, vector-reduce, vector-zeros}
 use Rattle.lists.proofs.ListLaws.{length-zeros, at-tab, length-tab, tab-cong, tab-at}
-use Rattle.secrecy.specs.Leaks.{number, Leak, Symbols}
+use Rattle.secrecy.specs.Leaks.{keysShowing, Leak, Symbols}
 use Rattle.matrices.proofs.MadeVectors.{tab-vector, entry-below}
 use Rattle.secrecy.proofs.Units.{shift, minus, el-shift, tab-shift, dot-shift, dot-minus, minus-vector}
 use Rattle.secrecy.proofs.CountLaws.{same-counts, counts-differ}
@@ -30,8 +30,8 @@ pub record Carrier (q n : ℕ) (see : ℕ → List ℕ → List ℕ → List ℕ
 
 -- so W and W′ have equal numbers for every view
 pub carried-numbers : (q n : ℕ) (see : ℕ → List ℕ → List ℕ → List ℕ) (L : ℕ) (W W′ : List ℕ) → Carrier q n see L W W′ → (s : List ℕ)
-    → number q n see L W s ≡ number q n see L W′ s
-unfolding number
+    → keysShowing q n see L W s ≡ keysShowing q n see L W′ s
+unfolding keysShowing
 carried-numbers q n see L W W′ c s = same-counts q (L * n) (see L W) (see L W′) (c .T) (c .valid) (c .carries) (λ v. sameList v s)
 
 -- y = x + v and v = r - r′, so r′ + y = r + x
@@ -174,7 +174,8 @@ module _ (q m n : ℕ) (pos : 0 < q) where
 
   -- ---- any view that is one by forms
 
-  module _ (E : List (List ℕ)) (F : List Form) (agrees : ℕ → List ℕ → List ℕ → Type 0) (see : ℕ → List ℕ → List ℕ → List ℕ) (by : ByForms q m n E F agrees see) where
+  module _ (E : List (List ℕ)) (F : List Form) (agrees : ℕ → List ℕ → List ℕ → Type 0) (see : ℕ → List ℕ → List ℕ → List ℕ)
+      (by : ByForms q m n E F agrees see) where
     -- where all unseen differences are hidden, one view is carried to the other
     pub hidden-carries : Hidden q m n E F → (L : ℕ) (W W′ : List ℕ) → Symbols q m L W → Symbols q m L W′ → agrees L W W′ → Carrier q n see L W W′
     hidden-carries hid L W W′ v v′ a =
@@ -196,7 +197,7 @@ module _ (q m n : ℕ) (pos : 0 < q) where
     -- a difference that nothing makes up for leaks in one position, and it takes no other readings than 0 and d
     pub unmasked-leaks : (readings : ℕ → List ℕ → Type 0) → ((L : ℕ) (W : List ℕ) → readings L W → Symbols q m L W)
         → (d : List ℕ) → readings 1 (zeros m) → readings 1 d → Unseen q E d → ¬ (Mask q n F d) → Leak q n readings agrees see
-    unfolding number
+    unfolding keysShowing
     unmasked-leaks readings symbols d r₀ r₁ un none =
         let v₀ : Symbols q m 1 (zeros m) = symbols 1 (zeros m) r₀ in
         let v₁ : Symbols q m 1 d = symbols 1 d r₁ in

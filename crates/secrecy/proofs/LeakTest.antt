@@ -14,7 +14,8 @@ use Rattle.matrices.specs.Rank.{anyList, sameList}
 use Rattle.matrices.proofs.Spans.{any-list-found, any-list-at, same→eq}
 use Rattle.lists.specs.Sums.{howMany}
 use Rattle.secrecy.specs.Model.{Pool, users, inCoalition, inCluster, reading, total, setView, serverView, view}
-use Rattle.secrecy.specs.Leaks.{number, membersAgree, totalsAgree, agree, places, leaksAt, leaks, Symbols, Agree, ServerAgree, Agrees, PairLeak}
+use Rattle.secrecy.specs.Leaks.{keysShowing, membersAgree, totalsAgree, agree, places, leaksAt, leaks, Symbols, Agree, ServerAgree, Agrees, PairLeak}
+use Rattle.secrecy.specs.Leaks.{longest}
 use Rattle.lists.proofs.ListLaws.{many-all}
 use Rattle.secrecy.proofs.CountLaws.{count-found}
 use Rattle.secrecy.proofs.Forms.{see-vector}
@@ -76,18 +77,19 @@ module _ (P : Pool) where
       (length-seen P g (P .clusters) (λ _. true) (sumForm P)
       ∙ ap (λ (z : ℕ). z + (howMany (users P) (inCoalition g) + howMany (users P) (inCoalition g))) (many-all (P .clusters)))
   view-places pos g (suc u) L W N =
-      see-vector (P .q) (users P) (P .rate) L W N pos (howMany (users P) (inCluster P u) + (howMany (users P) (inCoalition g) + howMany (users P) (inCoalition g)))
+      see-vector (P .q) (users P) (P .rate) L W N pos (howMany (users P) (inCluster P u)
+      + (howMany (users P) (inCoalition g) + howMany (users P) (inCoalition g)))
       (units P g) (seenForms P g (users P) (inCluster P u) (upForm P)) (Agree P g) (setView P (inCluster P u) g) (set-forms P (inCluster P u) g)
       (length-seen P g (users P) (inCluster P u) (upForm P))
 
   -- how many source keys show s
   abbrev shows : (g w L : ℕ) (W s : List ℕ) → ℕ
-  shows g w L W s = number (P .q) (P .rate) (view P g w) L W s
+  shows g w L W s = keysShowing (P .q) (P .rate) (view P g w) L W s
 
   -- a view that some source key shows has them
   shown-places : 0 < P .q → (g w L : ℕ) (W s : List ℕ) → Symbols (P .q) (users P) L W → shows g w L W s ≢ 0
       → Vector (P .q) (places P g w L) s
-  unfolding number
+  unfolding keysShowing
   shown-places pos g w L W s v h =
       let (N, _, t) = count-found (P .q) (L * P .rate) (λ N. sameList (view P g w L W N) s) h in
       subst (Vector (P .q) (places P g w L)) (same→eq (view P g w L W N) s t) (view-places pos g w L W N v)
@@ -112,7 +114,7 @@ module _ (P : Pool) where
   leaks-found : (g w : ℕ) → T (leaks P g w) → PairLeak P g w
   unfolding leaks leaksAt pairAt unequalAt
   leaks-found g w t =
-      let (l, b, t₁) = any-found 64 (λ l. leaksAt P g w (suc l)) t in
+      let (l, b, t₁) = any-found longest (λ l. leaksAt P g w (suc l)) t in
       let L : ℕ = suc l in
       let (W, v, t₂) = any-list-found (P .q) (users P * L) (λ W. anyList (P .q) (users P * L) (pairAt g w L W)) t₁ in
       let (W′, v′, t₃) = any-list-found (P .q) (users P * L) (pairAt g w L W) t₂ in
@@ -141,8 +143,8 @@ module _ (P : Pool) where
       let W′ : List ℕ = k .W′ in
       let s : List ℕ = k .s in
       let low : 1 ≤ L = k .low in
-      let high : L ≤ 64 = k .high in
-      any-at 64 (λ l. leaksAt P g w (suc l)) (L - 1) (omega arith)
+      let high : L ≤ longest = k .high in
+      any-at longest (λ l. leaksAt P g w (suc l)) (L - 1) (omega arith)
       (subst (λ (z : ℕ). T (leaksAt P g w z)) {x = L} {y = suc (L - 1)} (omega arith)
       (any-list-at (P .q) (users P * L) (λ W. anyList (P .q) (users P * L) (pairAt g w L W)) W (k .W-in)
       (any-list-at (P .q) (users P * L) (pairAt g w L W) W′ (k .W′-in)

@@ -8,7 +8,7 @@ pub mod PoolForms
 pub mod Observers
 pub mod Relays
 pub mod Server
-pub mod Verdicts
+pub mod PairLeaks
 mod Independence
 mod Coalitions
 pub mod Clusters

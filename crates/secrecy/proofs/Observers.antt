@@ -112,6 +112,7 @@ module _ (P : Pool) (prime : Prime (P .q)) (valid : Vector (P .q) (users P * P .
         (λ w.
         let x : Telling P readings E tested F (w .i) = tells (w .i) (w .inside) (w .taken) in
         inr
-        (unmasked-leaks (P .q) (users P) (P .rate) (prime-pos prime) E (seenForms P g k seen F) agrees see by readings symbols (x .d) none (x .chosen) (x .unseen)
+        (unmasked-leaks (P .q) (users P) (P .rate) (prime-pos prime) E (seenForms P g k seen F) agrees see by readings symbols (x .d) none (x .chosen)
+        (x .unseen)
         (unmasked readings (w .i) (w .inside) (w .taken) (w .depends) x)))
         (independent-or-dependent (P .q) prime (P .rate) (coalitionRows P g) tested source (coalition-vectors P prime valid g) (o .sources) k)

@@ -31,11 +31,11 @@ module _ (P : Pool) where
   outside b g i = b i && not (inCoalition g i)
 
   -- a cluster with a user that is not in the coalition, and such a cluster with another after it
-  unfoldable pub opened : ℕ → ℕ → Bool
-  opened g u = not (allTo (P .size) (λ v. inCoalition g (u * P .size + v)))
+  unfoldable pub hasOutsider : ℕ → ℕ → Bool
+  hasOutsider g u = not (allTo (P .size) (λ v. inCoalition g (u * P .size + v)))
 
   unfoldable pub tested : ℕ → ℕ → Bool
-  tested g u = opened g u && anyTo (P .clusters) (λ w. ltb u w && opened g w)
+  tested g u = hasOutsider g u && anyTo (P .clusters) (λ w. ltb u w && hasOutsider g w)
 
   -- what the server watches: the sum rows of those clusters; a relay: the rows of its users outside the coalition
   abbrev pub watchedRows : ℕ → ℕ → List (List ℕ)

@@ -24,16 +24,17 @@ use Rattle.residues.proofs.CongruentSums.{sum-c, sum-left}
 use Rattle.secrecy.proofs.Units.{unit, minus, dot-minus, dot-minus-is, dot-addTo, dot-units-one}
 use Rattle.secrecy.proofs.Forms.{Unseen, MakesUp}
 use Rattle.secrecy.proofs.Readings.{Enough}
-use Rattle.secrecy.proofs.RankCondition.{row, sumRow, coalitionRows, opened, tested, sum-row-vector}
+use Rattle.secrecy.proofs.RankCondition.{row, sumRow, coalitionRows, hasOutsider, tested, sum-row-vector}
 use Rattle.secrecy.proofs.PoolForms.{sumForm, units, ones, server-forms}
 use Rattle.secrecy.proofs.Coalitions.{unit-unseen, member-made}
-use Rattle.secrecy.proofs.Clusters.{sum-units, sum-row, rows-none, opened-by, closed-all, tested-opened, tested-later, made-tested}
+use Rattle.secrecy.proofs.Clusters.{sum-units, sum-row, rows-none, outsider-of, closed-all, tested-outsider, tested-later, made-tested}
 use Rattle.secrecy.proofs.Clusters.{in-cluster, cluster-apart, other-cluster}
 use Rattle.secrecy.proofs.Observers.{Observer, Telling, observer-keeps, observer-either}
 
 -- ---- the tested clusters are enough: source symbols that make up for a difference in them make up for it in all
 
-module _ (P : Pool) (zs : ZeroSum P) (g : ℕ) (d N : List ℕ) (un : Unseen (P .q) (ones P ∷ units P g) d) (none : All (λ r. dot (P .q) r N ≡ 0) (coalitionRows P g))
+module _ (P : Pool) (zs : ZeroSum P) (g : ℕ) (d N : List ℕ) (un : Unseen (P .q) (ones P ∷ units P g) d)
+    (none : All (λ r. dot (P .q) r N ≡ 0) (coalitionRows P g))
     (hits : (u : ℕ) → u < P .clusters → T (tested P g u) → MakesUp (P .q) d N (sumForm P u)) where
   abbrev Meets : ℕ → Type 0
   Meets u = Cong (P .q) (dotN (sumForm P u .onReadings) d) (dotN (sumRow P u) N)
@@ -42,7 +43,7 @@ module _ (P : Pool) (zs : ZeroSum P) (g : ℕ) (d N : List ℕ) (un : Unseen (P 
   tested-meets u h t = of-mod (P .q) (dotN (sumForm P u .onReadings) d) (dotN (sumRow P u) N) (hits u h t)
 
   -- a cluster wholly in the coalition has 0 on both sides
-  closed-meets : (u : ℕ) → u < P .clusters → ¬ (T (opened P g u)) → Meets u
+  closed-meets : (u : ℕ) → u < P .clusters → ¬ (T (hasOutsider P g u)) → Meets u
   closed-meets u h out =
       c-trans (of-eq (sum-units P d u))
       (c-trans
@@ -67,20 +68,20 @@ module _ (P : Pool) (zs : ZeroSum P) (g : ℕ) (d N : List ℕ) (un : Unseen (P 
       (sum-c (P .clusters) (λ u. dotN (sumRow P u) N) (λ u. sumTo (P .size) (λ v. dotN (row P (u * P .size + v)) N)) (λ u l. sum-row P N u))
       (c-trans (of-eq (sym (sum-grid (P .clusters) (P .size) (λ i. dotN (row P i) N)))) (rows-none P zs N)))))
 
-  -- of two open clusters one is tested
-  other-meets : (u : ℕ) → u < P .clusters → ¬ (T (tested P g u)) → T (opened P g u) → (w : ℕ) → w < P .clusters → w ≢ u → Meets w
-  other-meets u h nt o w l ne = go (T-decide (tested P g w)) (T-decide (opened P g w)) (decLt w u)
+  -- of two clusters with outsiders one is tested
+  other-meets : (u : ℕ) → u < P .clusters → ¬ (T (tested P g u)) → T (hasOutsider P g u) → (w : ℕ) → w < P .clusters → w ≢ u → Meets w
+  other-meets u h nt o w l ne = go (T-decide (tested P g w)) (T-decide (hasOutsider P g w)) (decLt w u)
     where
-      go : Dec (T (tested P g w)) → Dec (T (opened P g w)) → Dec (w < u) → Meets w
+      go : Dec (T (tested P g w)) → Dec (T (hasOutsider P g w)) → Dec (w < u) → Meets w
       go (yes t) r c = tested-meets w l t
       go (no t) (no r) c = closed-meets w l r
       go (no t) (yes r) (yes c) = absurd (t (made-tested P g w u h c r o))
       go (no t) (yes r) (no c) = absurd (nt (made-tested P g u w l (omega arith) o r))
 
   meets : (u : ℕ) → u < P .clusters → Meets u
-  meets u h = go (T-decide (tested P g u)) (T-decide (opened P g u))
+  meets u h = go (T-decide (tested P g u)) (T-decide (hasOutsider P g u))
     where
-      go : Dec (T (tested P g u)) → Dec (T (opened P g u)) → Meets u
+      go : Dec (T (tested P g u)) → Dec (T (hasOutsider P g u)) → Meets u
       go (yes t) o = tested-meets u h t
       go (no t) (no o) = closed-meets u h o
       go (no t) (yes o) =
@@ -119,9 +120,9 @@ module _ (P : Pool) (prime : Prime (P .q)) (valid : Vector (P .q) (users P * P .
   telling : (readings : ℕ → List ℕ → Type 0) → Enough (P .q) (users P) readings → (u : ℕ) → u < P .clusters → T (tested P g u)
       → Telling P readings (ones P ∷ units P g) (tested P g) (sumForm P) u
   telling readings en u h t =
-      let (v, hv, out) = opened-by P g u (tested-opened P g u t) in
+      let (v, hv, out) = outsider-of P g u (tested-outsider P g u t) in
       let (w, hw, later, o) = tested-later P g u t in
-      let (x, hx, out′) = opened-by P g w o in
+      let (x, hx, out′) = outsider-of P g w o in
       let i : ℕ = u * P .size + v in
       let j : ℕ = w * P .size + x in
       let hi : i < users P = digits-lt h hv in
@@ -138,7 +139,8 @@ module _ (P : Pool) (prime : Prime (P .q)) (valid : Vector (P .q) (users P * P .
           minus-unseen (P .q) (units P g) a b (unit-unseen P g i out) (unit-unseen P g j out′),
         );
         one =
-            c-trans (dot-minus-is (P .q) (sumForm P u .onReadings) a b 1 0 (in-cluster P u v h hv) (other-cluster P u w x h (omega arith) hx)) (of-eq (omega arith));
+            c-trans (dot-minus-is (P .q) (sumForm P u .onReadings) a b 1 0 (in-cluster P u v h hv) (other-cluster P u w x h (omega arith) hx))
+            (of-eq (omega arith));
         before = λ y l s.
             c-trans
             (dot-minus-is (P .q) (sumForm P y .onReadings) a b 0 0

@@ -119,7 +119,8 @@ module _ (q m i j : ℕ) (two : 2 ≤ q) where
           ∙ ap (λ (z : ℕ). z % q) (ap₂ (λ (x y : ℕ). x + (q - 1) * y) e f ∙ s)
           ∙ mod-eq-of-lt l
 
-      go : Dec (k ≡ j) → (at (minus q (unit m i) (unit m j)) k ≡ 0) ⊎ ((at (minus q (unit m i) (unit m j)) k ≡ 1) ⊎ (at (minus q (unit m i) (unit m j)) k ≡ q - 1))
+      go : Dec (k ≡ j) → (at (minus q (unit m i) (unit m j)) k ≡ 0) ⊎
+          ((at (minus q (unit m i) (unit m j)) k ≡ 1) ⊎ (at (minus q (unit m i) (unit m j)) k ≡ q - 1))
       go (yes e) =
           inr (inr (entry 0 1 (q - 1) (at-unit-other m i k (omega arith)) (ap (at (unit m j)) e ∙ at-unit-same m j hj) (omega arith) (omega arith)))
       go (no e) =

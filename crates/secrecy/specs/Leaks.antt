@@ -13,9 +13,13 @@ use Rattle.secrecy.specs.Counts.{count}
 use Rattle.lists.specs.Sums.{howMany}
 use Rattle.secrecy.specs.Model.{Pool, users, inCoalition, inCluster, reading, total, view}
 
+-- "block length L from 1 to 64"
+abbrev pub longest : ℕ
+longest = 64
+
 -- among all source keys of L positions, n symbols each, how many show s under the readings W
-unfoldable pub number : (q n : ℕ) → (ℕ → List ℕ → List ℕ → List ℕ) → ℕ → List ℕ → List ℕ → ℕ
-number q n see L W s = count q (L * n) (λ N. sameList (see L W N) s)
+unfoldable pub keysShowing : (q n : ℕ) → (ℕ → List ℕ → List ℕ → List ℕ) → ℕ → List ℕ → List ℕ → ℕ
+keysShowing q n see L W s = count q (L * n) (λ N. sameList (see L W N) s)
 
 -- ---- as a test
 
@@ -43,11 +47,11 @@ module _ (P : Pool) where
       anyList (P .q) (users P * L) (λ W.
       anyList (P .q) (users P * L) (λ W′.
       agree g w L W W′
-      && anyList (P .q) (places g w L) (λ s. not (eqb (number (P .q) (P .rate) (view P g w) L W s) (number (P .q) (P .rate) (view P g w) L W′ s)))))
+      && anyList (P .q) (places g w L) (λ s. not (eqb (keysShowing (P .q) (P .rate) (view P g w) L W s) (keysShowing (P .q) (P .rate) (view P g w) L W′ s)))))
 
-  -- for some L from 1 to 64
+  -- for some L
   unfoldable pub leaks : ℕ → ℕ → Bool
-  leaks g w = anyTo 64 (λ l. leaksAt g w (suc l))
+  leaks g w = anyTo longest (λ l. leaksAt g w (suc l))
 
 -- ---- as a record
 
@@ -59,14 +63,14 @@ Symbols q m L W = Vector q (m * L) W
 pub record Leak (q n : ℕ) (readings : ℕ → List ℕ → Type 0) (agrees : ℕ → List ℕ → List ℕ → Type 0) (see : ℕ → List ℕ → List ℕ → List ℕ) : Type 0 where
   pub L : ℕ
   pub low : 1 ≤ L
-  pub high : L ≤ 64
+  pub high : L ≤ longest
   pub W : List ℕ
   pub W′ : List ℕ
   pub W-in : readings L W
   pub W′-in : readings L W′
   pub same : agrees L W W′
   pub s : List ℕ
-  pub unequal : number q n see L W s ≢ number q n see L W′ s
+  pub unequal : keysShowing q n see L W s ≢ keysShowing q n see L W′ s
 
 module _ (P : Pool) where
   -- two sets of readings agree on the coalition's members; and, for the server, on the totals

@@ -76,7 +76,8 @@ module _ (stream : List ℕ) where
   draws-within position draws h = omega (arith, draws-few position draws, draws-forward position draws)
 
   -- a run draws the symbols from the first position to the last, in order
-  pub draws-give : (position : ℕ) (draws : List (ℕ × List ℕ)) → symbolsDrawn stream position draws ≡ drawn stream position (positionAfterAll stream position draws - position)
+  pub draws-give : (position : ℕ) (draws : List (ℕ × List ℕ)) → symbolsDrawn stream position draws ≡ drawn stream position
+      (positionAfterAll stream position draws - position)
   draws-give position [] = ap (drawn stream position) {x = 0} {y = position - position} (omega arith)
   draws-give position (draw ∷ draws) = go (takes position draw) (λ p. draws-give p draws)
     where
@@ -93,7 +94,8 @@ module _ (stream : List ℕ) where
       go false later = later position
 
   -- their places follow each other: each accepted draw begins where the one before it ended
-  pub draws-consecutive : (position : ℕ) (draws : List (ℕ × List ℕ)) → placesDrawn stream position draws ≡ tab (positionAfterAll stream position draws - position) (λ k. position + k)
+  pub draws-consecutive : (position : ℕ) (draws : List (ℕ × List ℕ)) → placesDrawn stream position draws ≡ tab
+      (positionAfterAll stream position draws - position) (λ k. position + k)
   unfolding tab
   draws-consecutive position [] = ap (λ (n : ℕ). tab n (λ k. position + k)) {x = 0} {y = position - position} (omega arith)
   draws-consecutive position (draw ∷ draws) = go (takes position draw) (λ p. draws-consecutive p draws)
@@ -106,7 +108,8 @@ module _ (stream : List ℕ) where
           let end : ℕ = positionAfterAll stream (position + n) draws in
           let rest : ℕ = end - (position + n) in
           let all : n + rest ≡ end - position = omega (arith, draws-forward (position + n) draws) in
-          ap (λ (l : List ℕ). tab n (λ k. position + k) ++ l) (later (position + n) ∙ tab-cong rest (λ k. position + n + k) (λ k. position + (n + k)) (λ k _. omega arith))
+          ap (λ (l : List ℕ). tab n (λ k. position + k) ++ l)
+          (later (position + n) ∙ tab-cong rest (λ k. position + n + k) (λ k. position + (n + k)) (λ k _. omega arith))
           ∙ sym (tab-append n rest (λ k. position + k))
           ∙ ap (λ (m : ℕ). tab m (λ k. position + k)) all
       go false later = later position

@@ -16,7 +16,7 @@ use Rattle.lists.specs.Sums.{sumTo}
 use Rattle.lists.proofs.Sums.{sum-cong}
 use Rattle.plans.specs.declared.Plan.{Plan}
 use Rattle.plans.specs.Plans.{usersOf}
-use Rattle.vetting.specs.Walking.{clusterSum}
+use Rattle.vetting.specs.Walking.{clusterSum, levelSize}
 use Rattle.plans.proofs.PlanBounds.{Bounds}
 use Rattle.vetting.proofs.GatherLaws.{row-put, room, few-numbers}
 
@@ -42,10 +42,14 @@ rows-below n rate m h l = omega (arith, mul-le-mul {n₁ = n} {m₁ = 1} {n₂ =
 -- the rows of cluster u lie in the table
 pub cluster-fits : (clusters size rate u m : ℕ) → u < clusters → clusters * size * rate ≤ m → (u * size + size) * rate ≤ m
 cluster-fits clusters size rate u m h l =
-    omega (arith, mul-le-mul {n₁ = u * size + size} {m₁ = rate} {n₂ = clusters * size} {m₂ = rate} (room clusters size u (clusters * size) h (omega arith)) (omega arith))
+    omega (
+      arith,
+      mul-le-mul {n₁ = u * size + size} {m₁ = rate} {n₂ = clusters * size} {m₂ = rate} (room clusters size u (clusters * size) h (omega arith))
+          (omega arith),
+    )
 
 -- its key table, and the sums below that, have room on a level
-pub base-room : (P : Plan) → Bounds P → usersOf P * P .rate + P .clusters * P .rate ≤ 384
+pub base-room : (P : Plan) → Bounds P → usersOf P * P .rate + P .clusters * P .rate ≤ levelSize
 base-room P w = omega (arith, few-numbers (usersOf P + P .clusters) (P .rate) (omega (arith, w .counts .few-users, w .counts .few-clusters)) (w .few-symbols))
 
 -- ---- a table put in front, and a list put after it

@@ -21,14 +21,14 @@ use Rattle.matrices.proofs.Elimination.{Table}
 use Rattle.secrecy.specs.Model.{inCoalition, inCluster, ZeroSum}
 use Rattle.secrecy.specs.Leaks.{leaks}
 use Rattle.secrecy.proofs.RankCondition.{outside, tested, row, sumRow, coalitionRows, watchedRows}
-use Rattle.secrecy.proofs.Verdicts.{leaks-iff, pair-iff}
+use Rattle.secrecy.proofs.PairLeaks.{leaks-iff, pair-iff}
 use Rattle.plans.specs.declared.Plan.{Plan}
 use Rattle.vetting.specs.declared.Pair.{Pair}
 use Rattle.vetting.specs.declared.Found.the-variants.{At}
 use Rattle.plans.specs.Plans.{usersOf, inBounds}
 use Rattle.vetting.specs.Pools.{poolOf}
 use Rattle.vetting.specs.Walk.{pairs, InWalk}
-use Rattle.vetting.specs.Verdict.{leakCheck}
+use Rattle.vetting.specs.Vet.{leakCheck}
 use Rattle.vetting.specs.Walking.{baseTable, rowsIn, watchMask, hit, firstHit, walked, foundCode}
 use Rattle.lists.proofs.BitLaws.{bit-above}
 use Rattle.plans.proofs.PlanBounds.{Bounds, bounds-known}
@@ -56,7 +56,8 @@ first-leak P K f (p ∷ l) h =
 
 -- ---- the test
 
-module _ (P : Plan) (K : List ℕ) (bounds : Bounds P) (symbols : length K ≡ usersOf P * P .rate) (prime : Prime (P .q)) (valid : Vector (P .q) (usersOf P * P .rate) K)
+module _ (P : Plan) (K : List ℕ) (bounds : Bounds P) (symbols : length K ≡ usersOf P * P .rate) (prime : Prime (P .q))
+    (valid : Vector (P .q) (usersOf P * P .rate) K)
     (zs : ZeroSum (poolOf P K)) where
   table : Table (P .q) (rowsIn P) (P .rate) (baseTable P K)
   table = base-table P K symbols prime valid bounds
@@ -90,7 +91,8 @@ module _ (P : Plan) (K : List ℕ) (bounds : Bounds P) (symbols : length K ≡ u
 
     pub decides : (w : ℕ) → w ≤ P .clusters → hit P (baseTable P K) g w ≡ leaks (poolOf P K) g w
     decides w h =
-        let test = table-iff (P .q) prime (rowsIn P) (P .rate) (baseTable P K) table (usersOf P) g in-rows in-walk member (watchMask (P .clusters) (P .size) g w) g in
+        let test = table-iff (P .q) prime (rowsIn P) (P .rate) (baseTable P K) table (usersOf P) g in-rows in-walk member
+        (watchMask (P .clusters) (P .size) g w) g in
         let quiet = pair-iff (poolOf P K) prime valid zs g w in
         let search = leaks-iff (poolOf P K) prime valid g w in
         let same : Independent (P .q) (P .rate) (ofCoalition (P .q) prime (rowsIn P) (P .rate) (baseTable P K) table (usersOf P) g in-rows in-walk member)
@@ -115,6 +117,7 @@ module _ (P : Plan) (K : List ℕ) (bounds : inBounds P ≡ true) (sized : lengt
   pub found-verdict : foundCode (walked P (baseTable P K)) ≡ firstOf (map (leakCheck P K) (pairs (P .clusters) (P .size) (P .limit)))
   found-verdict =
       first-leak P K (hit P (baseTable P K)) (pairs (P .clusters) (P .size) (P .limit))
-      (all-map (λ x. InWalk P (x .coalition) (x .observer)) (λ x. hit P (baseTable P K) (x .coalition) (x .observer) ≡ leaks (poolOf P K) (x .coalition) (x .observer))
+      (all-map (λ x. InWalk P (x .coalition) (x .observer))
+      (λ x. hit P (baseTable P K) (x .coalition) (x .observer) ≡ leaks (poolOf P K) (x .coalition) (x .observer))
       (λ x w. pair-verdict (x .coalition) (x .observer) (w .users) (w .observer))
       (pairs (P .clusters) (P .size) (P .limit)) (pairs-in P))

@@ -16,17 +16,17 @@ use Rattle.lists.specs.Lists.{All}
 use Rattle.matrices.specs.Linear.{Vector}
 use Rattle.lists.proofs.Members.{all-map, all-right}
 use Rattle.secrecy.specs.Model.{view, ZeroSum}
-use Rattle.secrecy.specs.Leaks.{number, leaks, Symbols, Leak, Agrees, PairLeak}
-use Rattle.secrecy.proofs.Verdicts.{Small, leaks-iff, equal-numbers, small-leak}
+use Rattle.secrecy.specs.Leaks.{keysShowing, leaks, Symbols, Leak, Agrees, PairLeak}
+use Rattle.secrecy.proofs.PairLeaks.{Small, leaks-iff, equal-numbers, small-leak}
 use Rattle.plans.specs.declared.Plan.{Plan}
 use Rattle.vetting.specs.declared.Pair.{Pair}
 use Rattle.plans.specs.Plans.{usersOf}
 use Rattle.vetting.specs.Pools.{poolOf}
 use Rattle.vetting.specs.Walk.{pairs, InWalk, First}
-use Rattle.vetting.specs.Verdict.{leakCheck, otherChecks, verdict, columnChecks}
+use Rattle.vetting.specs.Vet.{leakCheck, otherChecks, vetCode, columnChecks}
 use Rattle.refusals.proofs.Orders.{rest-decides, first-accepts}
 use Rattle.plans.proofs.TableLaws.{table-passed}
-use Rattle.vetting.proofs.VerdictLaws.{columns-numbered, columns-passed}
+use Rattle.vetting.proofs.VetLaws.{columns-numbered, columns-passed}
 pub use Rattle.vetting.proofs.PairLists.{pairs-in, in-pairs}
 
 -- ---- a plan that passes the other checks
@@ -54,24 +54,25 @@ abbrev leakCode : Pair → Code
 leakCode p = record { number = 7; first = p .coalition; second = p .observer }
 
 module _ (P : Plan) (K : List ℕ) where
-  abbrev Found : Pair → Type 0
-  Found p = T (leaks (poolOf P K) (p .coalition) (p .observer))
+  abbrev TestLeaks : Pair → Type 0
+  TestLeaks p = T (leaks (poolOf P K) (p .coalition) (p .observer))
 
-  search : (l : List Pair) → All (λ x. ¬ (Found x)) l ⊎ ((p : Pair) × First Found l p)
+  search : (l : List Pair) → All (λ x. ¬ (TestLeaks x)) l ⊎ ((p : Pair) × First TestLeaks l p)
   search [] = inl tt
   search (x ∷ l) = go (T-decide (leaks (poolOf P K) (x .coalition) (x .observer))) (search l)
     where
-      go : Dec (Found x) → All (λ x. ¬ (Found x)) l ⊎ ((p : Pair) × First Found l p) → All (λ x. ¬ (Found x)) (x ∷ l) ⊎ ((p : Pair) × First Found (x ∷ l) p)
+      go : Dec (TestLeaks x) → All (λ x. ¬ (TestLeaks x)) l ⊎ ((p : Pair) × First TestLeaks l p) → All (λ x. ¬ (TestLeaks x)) (x ∷ l) ⊎
+          ((p : Pair) × First TestLeaks (x ∷ l) p)
       go (yes h) s = inr (x, record { before = []; after = l; split = refl; none = tt; here = h })
       go (no n) (inl s) = inl (n, s)
       go (no n) (inr (p, f)) =
           inr (p, record { before = x ∷ f .before; after = f .after; split = ap (λ (y : List Pair). x ∷ y) (f .split); none = (n, f .none); here = f .here })
 
-  quiet-code : (l : List Pair) → All (λ x. ¬ (Found x)) l → firstOf (map (leakCheck P K) l) ≡ accepted
+  quiet-code : (l : List Pair) → All (λ x. ¬ (TestLeaks x)) l → firstOf (map (leakCheck P K) l) ≡ accepted
   quiet-code [] h = refl
   quiet-code (x ∷ l) h = rw (not-T→false (leaks (poolOf P K) (x .coalition) (x .observer)) (h .0)) (quiet-code l (h .1))
 
-  first-code : (before after : List Pair) (p : Pair) → All (λ x. ¬ (Found x)) before → Found p
+  first-code : (before after : List Pair) (p : Pair) → All (λ x. ¬ (TestLeaks x)) before → TestLeaks p
       → firstOf (map (leakCheck P K) (before ++ (p ∷ after))) ≡ leakCode p
   first-code [] after p h t = rw (T→true (leaks (poolOf P K) (p .coalition) (p .observer)) t) refl
   first-code (x ∷ before) after p h t = rw (not-T→false (leaks (poolOf P K) (x .coalition) (x .observer)) (h .0)) (first-code before after p (h .1) t)
@@ -86,22 +87,23 @@ module _ (P : Plan) (K : List ℕ) where
   abbrev walk : List Pair
   walk = pairs (P .clusters) (P .size) (P .limit)
 
-  accepted-checked : accepted ≡ verdict P K → accepted ≡ firstOf (otherChecks P K)
+  accepted-checked : accepted ≡ vetCode P K → accepted ≡ firstOf (otherChecks P K)
   accepted-checked e = first-accepts (otherChecks P K) (map (leakCheck P K) walk) (other-numbered P K) e
 
-  walk-decides : accepted ≡ firstOf (otherChecks P K) → firstOf (map (leakCheck P K) walk) ≡ verdict P K
+  walk-decides : accepted ≡ firstOf (otherChecks P K) → firstOf (map (leakCheck P K) walk) ≡ vetCode P K
   walk-decides o = rest-decides (otherChecks P K) (map (leakCheck P K) walk) (other-numbered P K) o
 
   -- an accepted plan: no pair leaks
-  pub accepted-quiet : accepted ≡ verdict P K → (g w : ℕ) → InWalk P g w → ¬ (PairLeak (poolOf P K) g w)
+  pub accepted-quiet : accepted ≡ vetCode P K → (g w : ℕ) → InWalk P g w → ¬ (PairLeak (poolOf P K) g w)
   accepted-quiet e g w i =
       let c : Checked P K = checked P K (accepted-checked e) in
       ⊎-elim
-      (λ none k. in-pairs P (λ x. ¬ (Found P K x)) none g w i (leaks-iff (poolOf P K) (c .prime) (c .valid) g w .1 k))
+      (λ none k. in-pairs P (λ x. ¬ (TestLeaks P K x)) none g w i (leaks-iff (poolOf P K) (c .prime) (c .valid) g w .1 k))
       (λ s.
       let f = s .1 in
       let z : accepted ≡ leakCode (s .0)
-      = e ∙ sym (walk-decides (accepted-checked e)) ∙ ap (λ (l : List Pair). firstOf (map (leakCheck P K) l)) (f .split) ∙ first-code P K (f .before) (f .after) (s .0) (f .none) (f .here) in
+      = e ∙ sym (walk-decides (accepted-checked e)) ∙ ap (λ (l : List Pair). firstOf (map (leakCheck P K) l)) (f .split) ∙ first-code P K (f .before) (f .after)
+      (s .0) (f .none) (f .here) in
       let n : _≡_ {A = ℕ} 0 7 = ap (λ (d : Code). d .number) z in
       absurd (omega arith))
       (search P K walk)
@@ -109,9 +111,9 @@ module _ (P : Plan) (K : List ℕ) where
   -- (a) "Take any accepted plan, any gang of meters up to its limit, any watcher, which is one gateway or the desk, any block length and any sight. Every
   -- two sets of readings that agree on the gang's members and, where the watcher is the desk, on the total modulo the prime, have the same number of key
   -- blocks that show the watcher that sight in a round." Gang, watcher and sight are coalition, observer and view here.
-  pub accepted-equal-numbers : accepted ≡ verdict P K → (g w : ℕ) → InWalk P g w → (L : ℕ) → 1 ≤ L → L ≤ 64
+  pub accepted-equal-numbers : accepted ≡ vetCode P K → (g w : ℕ) → InWalk P g w → (L : ℕ) → 1 ≤ L → L ≤ 64
       → (W W′ : List ℕ) → Symbols (P .q) (usersOf P) L W → Symbols (P .q) (usersOf P) L W′ → Agrees (poolOf P K) g w L W W′
-      → (s : List ℕ) → number (P .q) (P .rate) (view (poolOf P K) g w) L W s ≡ number (P .q) (P .rate) (view (poolOf P K) g w) L W′ s
+      → (s : List ℕ) → keysShowing (P .q) (P .rate) (view (poolOf P K) g w) L W s ≡ keysShowing (P .q) (P .rate) (view (poolOf P K) g w) L W′ s
   accepted-equal-numbers e g w i =
       let c : Checked P K = checked P K (accepted-checked e) in
       equal-numbers (poolOf P K) (c .prime) (c .valid) g w (accepted-quiet e g w i)
@@ -120,27 +122,28 @@ module _ (P : Plan) (K : List ℕ) where
     c : Checked P K
     c = checked P K others
 
-    found-iff : (p : Pair) → Found P K p ↔ LeaksTo p
+    found-iff : (p : Pair) → TestLeaks P K p ↔ LeaksTo p
     found-iff p = leaks-iff (poolOf P K) (c .prime) (c .valid) (p .coalition) (p .observer)
 
     -- the first pair that the search finds is the first that leaks
-    to-leak : (p : Pair) → First (Found P K) walk p → First LeaksTo walk p
+    to-leak : (p : Pair) → First (TestLeaks P K) walk p → First LeaksTo walk p
     to-leak p f =
         record {
           before = f .before;
           after = f .after;
           split = f .split;
-          none = all-map (λ x. ¬ (Found P K x)) (λ x. ¬ (LeaksTo x)) (λ x n k. n (found-iff x .1 k)) (f .before) (f .none);
+          none = all-map (λ x. ¬ (TestLeaks P K x)) (λ x. ¬ (LeaksTo x)) (λ x n k. n (found-iff x .1 k)) (f .before) (f .none);
           here = found-iff p .0 (f .here);
         }
 
-    named : (p : Pair) (before after : List Pair) → walk ≡ before ++ (p ∷ after) → All (λ x. ¬ (Found P K x)) before → Found P K p → verdict P K ≡ leakCode p
+    named : (p : Pair) (before after : List Pair) → walk ≡ before ++ (p ∷ after) → All (λ x. ¬ (TestLeaks P K x)) before → TestLeaks P K p → vetCode P K
+        ≡ leakCode p
     named p before after s n h =
         sym (walk-decides others) ∙ ap (λ (l : List Pair). firstOf (map (leakCheck P K) l)) s ∙ first-code P K before after p n h
 
     -- (b) "A plan that passes the other checks is refused as leaking exactly when, for some gang, watcher and block length, some such pair of sets has
     -- unequal numbers for some sight; the refusal names the first gang and watcher for which that is so."
-    pub refused-names-first : (p : Pair) → (verdict P K ≡ record { number = 7; first = p .coalition; second = p .observer }) ↔ First LeaksTo walk p
+    pub refused-names-first : (p : Pair) → (vetCode P K ≡ record { number = 7; first = p .coalition; second = p .observer }) ↔ First LeaksTo walk p
     refused-names-first p = (
       (λ e.
           ⊎-elim
@@ -154,10 +157,10 @@ module _ (P : Plan) (K : List ℕ) where
           subst (First LeaksTo walk) same (to-leak (s .0) f))
           (search P K walk)),
       (λ f. named p (f .before) (f .after) (f .split)
-          (all-map (λ x. ¬ (LeaksTo x)) (λ x. ¬ (Found P K x)) (λ x n k. n (found-iff x .0 k)) (f .before) (f .none)) (found-iff p .1 (f .here))),
+          (all-map (λ x. ¬ (LeaksTo x)) (λ x. ¬ (TestLeaks P K x)) (λ x n k. n (found-iff x .0 k)) (f .before) (f .none)) (found-iff p .1 (f .here))),
     )
 
-    pub refused-iff-leaks : _≡_ {A = ℕ} (verdict P K .number) 7 ↔ ((g : ℕ) × (w : ℕ) × InWalk P g w × PairLeak (poolOf P K) g w)
+    pub refused-iff-leaks : _≡_ {A = ℕ} (vetCode P K .number) 7 ↔ ((g : ℕ) × (w : ℕ) × InWalk P g w × PairLeak (poolOf P K) g w)
     refused-iff-leaks = (
       (λ e.
           ⊎-elim
@@ -177,7 +180,7 @@ module _ (P : Plan) (K : List ℕ) where
       (λ k.
           ⊎-elim
           (λ none.
-          absurd (in-pairs P (λ x. ¬ (Found P K x)) none (k .0) (k .1) (k .2) (found-iff (record { coalition = k .0; observer = k .1 }) .1 (k .3))))
+          absurd (in-pairs P (λ x. ¬ (TestLeaks P K x)) none (k .0) (k .1) (k .2) (found-iff (record { coalition = k .0; observer = k .1 }) .1 (k .3))))
           (λ s. let f = s .1 in ap (λ (d : Code). d .number) (named (s .0) (f .before) (f .after) (f .split) (f .none) (f .here)))
           (search P K walk)),
     )

@@ -5,32 +5,33 @@ use Prim.Native.Nat.{ℕ, suc, _+_, _*_, _≤_, _<_}
 use native.Mathlib.Omega.{arith}
 use lib.ListN.{length, getD, take, drop, set, length-drop, take-append-drop, List·getD-append}
 use lib.Seq.{take-at, drop-at, drop-append-le, take-append-le, length-take-le, getD-take, getD-drop, paste, paste-suc}
-use Rattle.vetting.specs.Walking.{levelAt}
+use Rattle.vetting.specs.Walking.{levelAt, levelSize}
 
-level-front : (size d : ℕ) (A M : List ℕ) → d * 384 + size ≤ length A → levelAt size (A ++ M) d ≡ levelAt size A d
+level-front : (size d : ℕ) (A M : List ℕ) → d * levelSize + size ≤ length A → levelAt size (A ++ M) d ≡ levelAt size A d
 level-front size d A M h =
-    ap (take size) (drop-append-le (d * 384) A M (omega arith))
-    ∙ take-append-le size (drop (d * 384) A) M (omega (arith, length-drop (d * 384) A))
+    ap (take size) (drop-append-le (d * levelSize) A M (omega arith))
+    ∙ take-append-le size (drop (d * levelSize) A) M (omega (arith, length-drop (d * levelSize) A))
 
-module _ (size d k : ℕ) (L : List ℕ) (h : k * 384 ≤ length L) where
-  len : length (take (k * 384) L) ≡ k * 384
-  len = length-take-le (k * 384) L h
+module _ (size d k : ℕ) (L : List ℕ) (h : k * levelSize ≤ length L) where
+  len : length (take (k * levelSize) L) ≡ k * levelSize
+  len = length-take-le (k * levelSize) L h
 
   -- what is before level k stays
-  pub level-below : (M : List ℕ) → d < k → size ≤ 384 → levelAt size (take (k * 384) L ++ M) d ≡ levelAt size L d
+  pub level-below : (M : List ℕ) → d < k → size ≤ levelSize → levelAt size (take (k * levelSize) L ++ M) d ≡ levelAt size L d
   level-below M l s =
-      let f : d * 384 + size ≤ length (take (k * 384) L) = omega (arith, len) in
-      level-front size d (take (k * 384) L) M f
-      ∙ sym (level-front size d (take (k * 384) L) (drop (k * 384) L) f)
-      ∙ ap (λ (X : List ℕ). levelAt size X d) (take-append-drop (k * 384) L)
+      let f : d * levelSize + size ≤ length (take (k * levelSize) L) = omega (arith, len) in
+      level-front size d (take (k * levelSize) L) M f
+      ∙ sym (level-front size d (take (k * levelSize) L) (drop (k * levelSize) L) f)
+      ∙ ap (λ (X : List ℕ). levelAt size X d) (take-append-drop (k * levelSize) L)
 
   -- level k is what was put there
-  pub level-here : (new R : List ℕ) → length new ≡ size → levelAt size (take (k * 384) L ++ (new ++ R)) k ≡ new
-  level-here new R e = ap (take size) (drop-at (take (k * 384) L) (new ++ R) (k * 384) len) ∙ take-at new R size e
+  pub level-here : (new R : List ℕ) → length new ≡ size → levelAt size (take (k * levelSize) L ++ (new ++ R)) k ≡ new
+  level-here new R e = ap (take size) (drop-at (take (k * levelSize) L) (new ++ R) (k * levelSize) len) ∙ take-at new R size e
 
 -- ---- a copy inside the list
 
-pub copied : (L : List ℕ) (a b n j : ℕ) → a + n ≤ b → b + n ≤ length L → j < n → set (paste L b (drop a L) j) (b + j) (getD (paste L b (drop a L) j) (a + j) 0) ≡ paste L b (drop a L) (suc j)
+pub copied : (L : List ℕ) (a b n j : ℕ) → a + n ≤ b → b + n ≤ length L → j < n → set (paste L b (drop a L) j) (b + j) (getD (paste L b (drop a L) j) (a + j) 0)
+    ≡ paste L b (drop a L) (suc j)
 copied L a b n j h l g =
     let t : length (take b L) ≡ b = length-take-le b L (omega arith) in
     let s : List ℕ = drop a L in

@@ -4,7 +4,7 @@ mod LevelLaws
 mod GatherLaws
 mod WalkLaws
 mod BaseLaws
-pub mod VerdictLaws
+pub mod VetLaws
 mod PairLists
 mod PickedLaws
 mod ReducedTables

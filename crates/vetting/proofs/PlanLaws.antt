@@ -13,7 +13,7 @@ use Rattle.lists.specs.Lists.{tab}
 use Rattle.plans.specs.declared.Plan.{Plan}
 use Rattle.plans.specs.Plans.{usersOf, inBounds}
 use Rattle.vetting.specs.Walk.{pairs}
-use Rattle.vetting.specs.Verdict.{columnCheck, leakCheck, vetChecks}
+use Rattle.vetting.specs.Vet.{columnCheck, leakCheck, vetChecks}
 use Rattle.plans.proofs.PlanBounds.{Bounds, bounds-known}
 use Rattle.refusals.proofs.Orders.{numbered-append, numbered-map}
 

@@ -138,7 +138,8 @@ module _ (q : ℕ) (pr : Prime q) (rows cols : ℕ) (U : List ℕ) (table : Tabl
   reduced-table (i ∷ is) h =
       let (t, r) = reduced-table is (h .1) in (
         eliminated-table q pr rows cols 0 (reducedBy q rows cols is U) t (omega arith) i (h .0),
-        eliminated-reduced q pr rows cols 0 (reducedBy q rows cols is U) t (omega arith) i (h .0) 0 (rowOf cols U) (memberRows is) (omega arith) r 0 (omega arith) (omega arith),
+        eliminated-reduced q pr rows cols 0 (reducedBy q rows cols is U) t (omega arith) i (h .0) 0 (rowOf cols U) (memberRows is) (omega arith) r 0
+            (omega arith) (omega arith),
       )
 
   -- the coalition's members are rows of the table, and are found among the first 16
@@ -163,7 +164,8 @@ module _ (q : ℕ) (pr : Prime q) (rows cols : ℕ) (U : List ℕ) (table : Tabl
     reduced-in =
         rows-all (InSpan q cols ofCoalition) (membersFrom 16 0 g)
         (members-all (λ i. InSpan q cols ofCoalition (rowOf cols U i)) g
-        (λ j t. picked-all (InSpan q cols ofCoalition) n (inCoalition g) (rowOf cols U) (span-members q cols (prime-pos pr) ofCoalition coalition-rows) j (members j t) t) 16 0)
+        (λ j t. picked-all (InSpan q cols ofCoalition) n (inCoalition g) (rowOf cols U) (span-members q cols (prime-pos pr) ofCoalition coalition-rows) j
+        (members j t) t) 16 0)
 
     coalition-in : All (InSpan q cols reducedRows) ofCoalition
     unfolding reducedRows
@@ -171,7 +173,8 @@ module _ (q : ℕ) (pr : Prime q) (rows cols : ℕ) (U : List ℕ) (table : Tabl
         all-picked (InSpan q cols reducedRows) n (inCoalition g) (rowOf cols U)
         (λ j l t.
         members-has (λ i. InSpan q cols reducedRows (rowOf cols U i)) g 16 0
-        (all-rows (InSpan q cols reducedRows) (membersFrom 16 0 g) (span-members q cols (prime-pos pr) reducedRows reduced-rows)) j (omega arith) (omega arith) t)
+        (all-rows (InSpan q cols reducedRows) (membersFrom 16 0 g) (span-members q cols (prime-pos pr) reducedRows reduced-rows)) j (omega arith)
+        (omega arith) t)
 
     -- the rows chosen from its table are dependent just where those of the first table are over the coalition's
     pub table-iff : (watch skip : ℕ) → T (dependent q rows cols watch skip (tableOf q rows cols U g))
@@ -187,6 +190,8 @@ module _ (q : ℕ) (pr : Prime q) (rows cols : ℕ) (U : List ℕ) (table : Tabl
         let over = reduced-independent q pr rows cols 0 (rowOf cols U) reducedRows (tableOf q rows cols U g) t reduced-rows (table .valid) r [] J tt within in
         let same : Independent q cols (reducedRows ++ []) (map (rowOf cols U) J) ≡ Independent q cols reducedRows C
         = ap₂ (Independent q cols) (append-nil reducedRows) (map-picked rows (chosen watch skip) (rowOf cols U) (λ i. i)) in (
-          (λ d i. test .0 d (over .1 (subst (λ X. X) (sym same) (independent-larger q pr cols reducedRows ofCoalition C reduced-rows coalition-rows hC reduced-in i)))),
-          (λ n. test .1 (λ i. n (independent-larger q pr cols ofCoalition reducedRows C coalition-rows reduced-rows hC coalition-in (subst (λ X. X) same (over .0 i))))),
+          (λ d i. test .0 d (over .1 (subst (λ X. X) (sym same)
+              (independent-larger q pr cols reducedRows ofCoalition C reduced-rows coalition-rows hC reduced-in i)))),
+          (λ n. test .1 (λ i. n (independent-larger q pr cols ofCoalition reducedRows C coalition-rows reduced-rows hC coalition-in
+              (subst (λ X. X) same (over .0 i))))),
         )

@@ -22,7 +22,7 @@ use Rattle.lists.proofs.ListLaws.{tab-cong}
 use Rattle.vetting.specs.declared.Pair.{Pair}
 use Rattle.vetting.specs.declared.Found.the-variants.{At, Nothing}
 use Rattle.vetting.specs.Walk.{observers, pairs}
-use Rattle.vetting.specs.Walking.{levelAt, descended, reducedBy, tableOf, firstHit}
+use Rattle.vetting.specs.Walking.{levelAt, descended, reducedBy, tableOf, firstHit, levelSize, levelsSize, mostRows}
 use Rattle.lists.proofs.BitLaws.{low-cleared, low-ones, cleared-fewer, cleared-next, ones-many}
 use Rattle.vetting.proofs.MemberLaws.{members-next, members-none}
 use Rattle.vetting.proofs.GatherLaws.{few-numbers}
@@ -37,13 +37,13 @@ high-le g j = div-mul-le-self g (2 ^ j)
 
 -- before coalition g is looked at: each coalition of its highest members, at most t and not all, has its table on its level
 pub record Holds (q rows cols t : ℕ) (T L : List ℕ) (g : ℕ) : Type 0 where
-  pub size : length L ≡ 6528
+  pub size : length L ≡ levelsSize
   pub base : levelAt (rows * cols) L 0 ≡ T
   pub above : (j : ℕ) → high g j < g → ones (high g j) ≤ t → levelAt (rows * cols) L (ones (high g j)) ≡ tableOf q rows cols T (high g j)
 
 -- after it: g too, if it is one of at most t
 pub record Full (q rows cols t : ℕ) (T L : List ℕ) (g : ℕ) : Type 0 where
-  pub size : length L ≡ 6528
+  pub size : length L ≡ levelsSize
   pub base : levelAt (rows * cols) L 0 ≡ T
   pub all : (j : ℕ) → ones (high g j) ≤ t → levelAt (rows * cols) L (ones (high g j)) ≡ tableOf q rows cols T (high g j)
 
@@ -91,7 +91,7 @@ module _ (q rows cols t : ℕ) (T L : List ℕ) where
       e : high g 0 ≡ g
       e = mul-one (g / 1) ∙ div-one g
 
-  module _ (g : ℕ) (p : 0 < g) (h : g < 2 ^ 16) (rf : rows ≤ 24) (cf : cols ≤ 16) (H : Holds q rows cols t T L g) where
+  module _ (g : ℕ) (p : 0 < g) (h : g < 2 ^ 16) (rf : rows ≤ mostRows) (cf : cols ≤ 16) (H : Holds q rows cols t T L g) where
     i : ℕ
     i = trailingZeros 16 g
 
@@ -108,8 +108,8 @@ module _ (q rows cols t : ℕ) (T L : List ℕ) where
     unfolding new
     length-new =
         let l : length (levelAt (rows * cols) L (ones g - 1)) ≡ rows * cols
-        = length-take-le (rows * cols) (drop ((ones g - 1) * 384) L)
-        (omega (arith, length-drop ((ones g - 1) * 384) L, few-numbers rows cols rf cf, few, H .size)) in
+        = length-take-le (rows * cols) (drop ((ones g - 1) * levelSize) L)
+        (omega (arith, length-drop ((ones g - 1) * levelSize) L, few-numbers rows cols rf cf, few, H .size)) in
         eliminated-length q rows cols (trailingZeros 16 g) (levelAt (rows * cols) L (ones g - 1)) (sym l) ∙ l
 
     -- what is put on the level of g is the table of g
@@ -127,7 +127,7 @@ module _ (q rows cols t : ℕ) (T L : List ℕ) where
         ap (eliminated q rows cols (trailingZeros 16 g)) a
         ∙ ap (λ (is : List ℕ). reducedBy q rows cols is T) (sym (members-next 16 g p h .2))
 
-    room : ones g * 384 ≤ length L
+    room : ones g * levelSize ≤ length L
     room = omega (arith, few, H .size)
 
     pub full-step : ones g ≤ t → Full q rows cols t T (descended q rows cols (ones g) (trailingZeros 16 g) L) g
@@ -135,20 +135,32 @@ module _ (q rows cols t : ℕ) (T L : List ℕ) where
     full-step o =
         record {
           size =
-              length-append (take (ones g * 384) L) (new ++ drop (ones g * 384 + rows * cols) L)
-              ∙ (omega (arith, length-append new (drop (ones g * 384 + rows * cols) L), length-take-le (ones g * 384) L room, length-new, length-drop (ones g * 384 + rows * cols) L, few-numbers rows cols rf cf, few, H .size));
-          base = level-below (rows * cols) 0 (ones g) L room (new ++ drop (ones g * 384 + rows * cols) L) some (few-numbers rows cols rf cf) ∙ H .base;
+              length-append (take (ones g * levelSize) L) (new ++ drop (ones g * levelSize + rows * cols) L)
+              ∙ (omega (
+                arith,
+                length-append new (drop (ones g * levelSize + rows * cols) L),
+                length-take-le
+                    (ones g * levelSize) L room,
+                length-new,
+                length-drop (ones g * levelSize + rows * cols) L,
+                few-numbers rows cols rf cf,
+                few,
+                H .size,
+              ));
+          base = level-below (rows * cols) 0 (ones g) L room (new ++ drop (ones g * levelSize + rows * cols) L) some (few-numbers rows cols rf cf) ∙ H .base;
           all = λ j. go j (decLt (high g j) g);
         }
       where
-        go : (j : ℕ) → Dec (high g j < g) → ones (high g j) ≤ t → levelAt (rows * cols) (descended q rows cols (ones g) (trailingZeros 16 g) L) (ones (high g j)) ≡ tableOf q rows cols T (high g j)
+        go : (j : ℕ) → Dec (high g j < g) → ones (high g j) ≤ t → levelAt (rows * cols) (descended q rows cols (ones g) (trailingZeros 16 g) L)
+            (ones (high g j)) ≡ tableOf q rows cols T (high g j)
         go j (yes l) k =
-            level-below (rows * cols) (ones (high g j)) (ones g) L room (new ++ drop (ones g * 384 + rows * cols) L) (cleared-fewer 16 j g h l) (few-numbers rows cols rf cf)
+            level-below (rows * cols) (ones (high g j)) (ones g) L room (new ++ drop (ones g * levelSize + rows * cols) L) (cleared-fewer 16 j g h l)
+            (few-numbers rows cols rf cf)
             ∙ H .above j l k
         go j (no n) k =
             let e : g ≡ high g j = omega (arith, high-le g j) in
             subst (λ (x : ℕ). levelAt (rows * cols) (descended q rows cols (ones g) (trailingZeros 16 g) L) (ones x) ≡ tableOf q rows cols T x) e
-            (level-here (rows * cols) 0 (ones g) L room new (drop (ones g * 384 + rows * cols) L) length-new ∙ new-is o)
+            (level-here (rows * cols) 0 (ones g) L room new (drop (ones g * levelSize + rows * cols) L) length-new ∙ new-is o)
 
 -- ---- the pairs that are left
 
@@ -199,7 +211,8 @@ pairs-join n limit clusters zero g = refl
 pairs-join n limit clusters (suc k) g =
     let F : ℕ → List Pair = λ x. cond (leb (howMany n (inCoalition x)) limit) (map (pairOf x) (observers clusters)) [] in
     join-front k (λ i. F (g + i))
-    ∙ ap₂ _++_ (ap F {x = g + 0} {y = g} (omega arith)) (join-cong k (λ i. F (g + suc i)) (λ i. F (g + 1 + i)) (λ i. ap F {x = g + suc i} {y = g + 1 + i} (omega arith)) ∙ pairs-join n limit clusters k (g + 1))
+    ∙ ap₂ _++_ (ap F {x = g + 0} {y = g} (omega arith))
+    (join-cong k (λ i. F (g + suc i)) (λ i. F (g + 1 + i)) (λ i. ap F {x = g + suc i} {y = g + 1 + i} (omega arith)) ∙ pairs-join n limit clusters k (g + 1))
 
 pub pairs-are : (clusters size limit : ℕ) → pairsFrom (clusters * size) limit clusters (2 ^ (clusters * size)) 0 ≡ pairs clusters size limit
 unfolding pairs picked
@@ -224,7 +237,8 @@ unfolding firstHit
 hit-none f = refl
 
 -- one observer more
-pub observers-next : (clusters w : ℕ) → w ≤ clusters + 1 → observersFrom clusters (clusters + 2 - w) w ≡ w % (clusters + 1) ∷ observersFrom clusters (clusters + 2 - (w + 1)) (w + 1)
+pub observers-next : (clusters w : ℕ) → w ≤ clusters + 1 → observersFrom clusters (clusters + 2 - w) w ≡ w % (clusters + 1) ∷ observersFrom clusters
+    (clusters + 2 - (w + 1)) (w + 1)
 unfolding observersFrom
 observers-next clusters w h =
     ap (λ (k : ℕ). observersFrom clusters k w) {x = clusters + 2 - w} {y = suc (clusters + 2 - (w + 1))} (omega arith)
@@ -243,7 +257,8 @@ module _ (n limit clusters g : ℕ) (below : g < 2 ^ n) where
       ∙ ap (λ (b : Bool). cond b (map (pairOf g) (observers clusters)) [] ++ pairsFrom n limit clusters (2 ^ n - (g + 1)) (g + 1))
       (ap (λ (m : ℕ). leb m limit) (sym (ones-many n g below)) ∙ e)
 
-  pub pairs-kept : ones g ≤ limit → pairsFrom n limit clusters (2 ^ n - g) g ≡ map (pairOf g) (observers clusters) ++ pairsFrom n limit clusters (2 ^ n - (g + 1)) (g + 1)
+  pub pairs-kept : ones g ≤ limit → pairsFrom n limit clusters (2 ^ n - g) g ≡ map (pairOf g) (observers clusters) ++ pairsFrom n limit clusters
+      (2 ^ n - (g + 1)) (g + 1)
   pairs-kept h = pairs-one true (le-leb (ones g) limit h)
 
   pub pairs-skipped : limit < ones g → pairsFrom n limit clusters (2 ^ n - g) g ≡ pairsFrom n limit clusters (2 ^ n - (g + 1)) (g + 1)

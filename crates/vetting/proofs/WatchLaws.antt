@@ -16,12 +16,12 @@ use Rattle.lists.proofs.Searches.{T-and, any-found, not-T→false}
 use Rattle.lists.specs.Bits.{hasBit}
 use Rattle.lists.specs.Lists.{picked}
 use Rattle.secrecy.specs.Model.{Pool, users, inCoalition, inCluster}
-use Rattle.secrecy.proofs.RankCondition.{outside, opened, tested}
-use Rattle.vetting.specs.Walking.{chosen, clusterMask, openTo, openMask, testedMask, watchMask}
+use Rattle.secrecy.proofs.RankCondition.{outside, hasOutsider, tested}
+use Rattle.vetting.specs.Walking.{chosen, clusterMask, outsiderIn, outsiderMask, testedMask, watchMask}
 use Rattle.lists.proofs.BitLaws.{lt-or-ge, mask-bits, mask-under, mask-from, mask-has, bit-above, all-ones}
 use Rattle.vetting.proofs.PickedLaws.{picked-cong, picked-nothing, picked-split}
 
--- ---- open clusters
+-- ---- clusters with outsiders
 
 -- the bits of a shifted number
 shifted-bit : (g a v : ℕ) → inCoalition (g / 2 ^ a) v ≡ inCoalition g (a + v)
@@ -39,56 +39,58 @@ unfolding anyTo
 any-cong zero f h e = refl
 any-cong (suc n) f h e = ap₂ _||_ (any-cong n f h e) (e n)
 
-open-is : (P : Pool) (g u : ℕ) → openTo (P .size) g u ≡ opened P g u
-unfolding opened
-open-is P g u =
+outsider-is : (P : Pool) (g u : ℕ) → outsiderIn (P .size) g u ≡ hasOutsider P g u
+unfolding hasOutsider
+outsider-is P g u =
     ap not (all-ones (g / 2 ^ (u * P .size)) (P .size)
     ∙ all-cong (P .size) (inCoalition (g / 2 ^ (u * P .size))) (λ v. inCoalition g (u * P .size + v)) (shifted-bit g (u * P .size)))
 
--- ---- the open clusters before the last of them
+-- ---- those before the last of them
 
 module _ (size g : ℕ) where
-  -- is some cluster below k, and after u, open?
+  -- is some cluster below k, and after u, one of them?
   unfoldable after : ℕ → ℕ → Bool
-  after k u = anyTo k (λ w. ltb u w && openTo size g w)
+  after k u = anyTo k (λ w. ltb u w && outsiderIn size g w)
 
   after-none : (k u : ℕ) → k ≤ u → after k u ≡ false
   unfolding after
   after-none k u h =
-      not-T→false (anyTo k (λ w. ltb u w && openTo size g w))
+      not-T→false (anyTo k (λ w. ltb u w && outsiderIn size g w))
       (λ t.
-      let (w, l, f) = any-found k (λ w. ltb u w && openTo size g w) t in
-      absurd (omega (arith, ltb→lt u w (T-and (ltb u w) (openTo size g w) f .0))))
+      let (w, l, f) = any-found k (λ w. ltb u w && outsiderIn size g w) t in
+      absurd (omega (arith, ltb→lt u w (T-and (ltb u w) (outsiderIn size g w) f .0))))
 
-  tested-next : (k u : ℕ) (t : Bool) → Dec (u < k) → inCoalition (testedMask size g k) u ≡ (openTo size g u && after k u)
-      → inCoalition (cond t (openMask size g k) (testedMask size g k)) u ≡ (openTo size g u && (after k u || (ltb u k && t)))
-  unfolding openMask
+  tested-next : (k u : ℕ) (t : Bool) → Dec (u < k) → inCoalition (testedMask size g k) u ≡ (outsiderIn size g u && after k u)
+      → inCoalition (cond t (outsiderMask size g k) (testedMask size g k)) u ≡ (outsiderIn size g u && (after k u || (ltb u k && t)))
+  unfolding outsiderMask
   tested-next k u true (yes h) ih =
-      mask-has (openTo size g) k u
-      ∙ ap (λ (x : Bool). x && openTo size g u) (lt-ltb u k h)
-      ∙ sym (ap (λ (x : Bool). openTo size g u && (after k u || (x && true))) (lt-ltb u k h)
-      ∙ ap (λ (x : Bool). openTo size g u && x) (or-true (after k u))
-      ∙ and-true (openTo size g u))
+      mask-has (outsiderIn size g) k u
+      ∙ ap (λ (x : Bool). x && outsiderIn size g u) (lt-ltb u k h)
+      ∙ sym (ap (λ (x : Bool). outsiderIn size g u && (after k u || (x && true))) (lt-ltb u k h)
+      ∙ ap (λ (x : Bool). outsiderIn size g u && x) (or-true (after k u))
+      ∙ and-true (outsiderIn size g u))
   tested-next k u true (no h) ih =
-      mask-has (openTo size g) k u
-      ∙ ap (λ (x : Bool). x && openTo size g u) (le-ltb u k (omega arith))
-      ∙ sym (ap₂ (λ (y x : Bool). openTo size g u && (y || (x && true))) (after-none k u (omega arith)) (le-ltb u k (omega arith))
-      ∙ and-false (openTo size g u))
+      mask-has (outsiderIn size g) k u
+      ∙ ap (λ (x : Bool). x && outsiderIn size g u) (le-ltb u k (omega arith))
+      ∙ sym (ap₂ (λ (y x : Bool). outsiderIn size g u && (y || (x && true))) (after-none k u (omega arith)) (le-ltb u k (omega arith))
+      ∙ and-false (outsiderIn size g u))
   tested-next k u false d ih =
-      ih ∙ sym (ap (λ (x : Bool). openTo size g u && (after k u || x)) (and-false (ltb u k)) ∙ ap (λ (x : Bool). openTo size g u && x) (or-false (after k u)))
+      ih ∙ sym (ap (λ (x : Bool). outsiderIn size g u && (after k u || x)) (and-false (ltb u k)) ∙ ap (λ (x : Bool). outsiderIn size g u && x)
+      (or-false (after k u)))
 
-  tested-bits : (k u : ℕ) → inCoalition (testedMask size g k) u ≡ (openTo size g u && after k u)
+  tested-bits : (k u : ℕ) → inCoalition (testedMask size g k) u ≡ (outsiderIn size g u && after k u)
   unfolding testedMask after anyTo
-  tested-bits zero u = bit-above 0 0 u (lit< tt) (omega arith) ∙ sym (and-false (openTo size g u))
-  tested-bits (suc k) u = tested-next k u (openTo size g k) (decLt u k) (tested-bits k u)
+  tested-bits zero u = bit-above 0 0 u (lit< tt) (omega arith) ∙ sym (and-false (outsiderIn size g u))
+  tested-bits (suc k) u = tested-next k u (outsiderIn size g k) (decLt u k) (tested-bits k u)
 
 -- the clusters whose sums the server watches
 pub tested-is : (P : Pool) (g u : ℕ) → inCoalition (testedMask (P .size) g (P .clusters)) u ≡ tested P g u
 unfolding tested after
 tested-is P g u =
     tested-bits (P .size) g (P .clusters) u
-    ∙ ap₂ _&&_ (open-is P g u)
-    (any-cong (P .clusters) (λ w. ltb u w && openTo (P .size) g w) (λ w. ltb u w && opened P g w) (λ w. ap (λ (x : Bool). ltb u w && x) (open-is P g w)))
+    ∙ ap₂ _&&_ (outsider-is P g u)
+    (any-cong (P .clusters) (λ w. ltb u w && outsiderIn (P .size) g w) (λ w. ltb u w && hasOutsider P g w)
+    (λ w. ap (λ (x : Bool). ltb u w && x) (outsider-is P g w)))
 
 -- ---- the users of a cluster
 

@@ -30,15 +30,27 @@ baseTable P K = K ++ joinTo (P .clusters) (λ u. tab (P .rate) (clusterSum (P .q
 abbrev pub rowsIn : Plan → ℕ
 rowsIn P = usersOf P + P .clusters
 
--- ---- levels, 384 symbols apart
+-- ---- levels: each has room for the largest table, and there is one for each number of members, from 0 to 16
+
+-- the users' rows, and the clusters' below them
+abbrev pub mostRows : ℕ
+mostRows = 24
+
+-- 24 rows of 16 symbols
+abbrev pub levelSize : ℕ
+levelSize = 384
+
+-- 17 levels
+abbrev pub levelsSize : ℕ
+levelsSize = 6528
 
 abbrev pub levelAt : ℕ → List ℕ → ℕ → List ℕ
-levelAt size L d = take size (drop (d * 384) L)
+levelAt size L d = take size (drop (d * levelSize) L)
 
 -- level k becomes level k - 1 eliminated by row i
 abbrev pub descended : ℕ → ℕ → ℕ → ℕ → ℕ → List ℕ → List ℕ
 descended q rows cols k i L =
-    take (k * 384) L ++ (eliminated q rows cols i (levelAt (rows * cols) L (k - 1)) ++ drop (k * 384 + rows * cols) L)
+    take (k * levelSize) L ++ (eliminated q rows cols i (levelAt (rows * cols) L (k - 1)) ++ drop (k * levelSize + rows * cols) L)
 
 -- the members of g among the k users from i on, rising
 unfoldable pub membersFrom : ℕ → ℕ → ℕ → List ℕ
@@ -69,17 +81,17 @@ dependent q rows cols watch skip T =
 abbrev pub clusterMask : ℕ → ℕ → ℕ
 clusterMask size u = (2 ^ size - 1) * 2 ^ (u * size)
 
--- is cluster u not wholly in the coalition?
-abbrev pub openTo : ℕ → ℕ → ℕ → Bool
-openTo size g u = not (eqb (g / 2 ^ (u * size) % 2 ^ size) (2 ^ size - 1))
+-- has cluster u an outsider, a user outside the coalition?
+abbrev pub outsiderIn : ℕ → ℕ → ℕ → Bool
+outsiderIn size g u = not (eqb (g / 2 ^ (u * size) % 2 ^ size) (2 ^ size - 1))
 
--- the open clusters below k, as bits; and those of them before the last
-unfoldable pub openMask : ℕ → ℕ → ℕ → ℕ
-openMask size g k = sumTo k (λ u. cond (openTo size g u) (2 ^ u) 0)
+-- the clusters below k that have an outsider, as bits; and those of them before the last
+unfoldable pub outsiderMask : ℕ → ℕ → ℕ → ℕ
+outsiderMask size g k = sumTo k (λ u. cond (outsiderIn size g u) (2 ^ u) 0)
 
 unfoldable pub testedMask : ℕ → ℕ → ℕ → ℕ
 testedMask size g zero = 0
-testedMask size g (suc k) = cond (openTo size g k) (openMask size g k) (testedMask size g k)
+testedMask size g (suc k) = cond (outsiderIn size g k) (outsiderMask size g k) (testedMask size g k)
 
 -- the rows of observer w: users of its cluster, or sums of clusters
 abbrev pub watchMask : ℕ → ℕ → ℕ → ℕ → ℕ

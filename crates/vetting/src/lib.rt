@@ -1,8 +1,8 @@
 // Vetting: the exact verdict on the secrecy of a plan.
-mod verdict;
+mod checks;
 mod walk;
 
-pub use verdict::vet;
+pub use checks::vet;
 
 // A coalition, and an observer: relay 1 to U, or 0 for the server.
 pub struct Pair {

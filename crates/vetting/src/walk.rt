@@ -10,7 +10,8 @@ ghost use Rattle.lists.specs.Lists.{at, tab, joinTo, picked};
 ghost use Rattle.matrices.specs.Tables.{rowOf};
 ghost use Rattle.lists.specs.Sums.{sumTo, howMany};
 ghost use Rattle.plans.specs.Plans.{plan, usersOf, inBounds};
-ghost use Rattle.vetting.specs.Walking.{chosen, clusterMask, openTo, testedMask, watchMask, clusterSum, baseTable, levelAt, descended, dependent, walked};
+ghost use Rattle.vetting.specs.Walking.{mostRows, levelsSize, chosen, clusterMask, outsiderIn, testedMask, watchMask};
+ghost use Rattle.vetting.specs.Walking.{clusterSum, baseTable, levelAt, descended, dependent, walked};
 use crate::Found;
 use crate::Pair;
 use arithmetic::Symbol;
@@ -18,6 +19,15 @@ use matrices::copy;
 use matrices::eliminate;
 use matrices::reduce_rows;
 use plans::Plan;
+
+// The rows of the largest table: the users', and the clusters' below them.
+const ROWS: usize = Plan::MAX_USERS + Plan::MAX_CLUSTERS;
+
+// A level has room for that table.
+const LEVEL: usize = ROWS * Plan::MAX_RATE;
+
+// One for each number of members, from 0 on.
+const LEVELS: usize = (Plan::MAX_USERS + 1) * LEVEL;
 
 // Whether `watch` has bit i and `skip` doesn't.
 fn is_chosen(watch: u32, skip: u32, i: u32) -> bool
@@ -39,16 +49,16 @@ fn cluster_mask(size: u32, u: u32) -> u32
     ((1 << size) - 1) << (u * size)
 }
 
-// Whether cluster u is not wholly in the coalition.
-fn is_open(size: u32, g: u32, u: u32) -> bool
+// Whether cluster u has a user outside the coalition.
+fn has_outsider(size: u32, g: u32, u: u32) -> bool
     requires { ⌜ (size ≤ 8) × (u * size + size ≤ 16) ⌝ }
-    ensures { λ r. ⌜ r ≡ openTo size g u ⌝ }
+    ensures { λ r. ⌜ r ≡ outsiderIn size g u ⌝ }
 {
     let all: u32 = (1 << size) - 1;
     (g >> (u * size)) & all != all
 }
 
-// The open clusters but the last: the table's zero sum settles that one.
+// The clusters that have one, but the last: the table's zero sum settles that one.
 fn tested_mask(clusters: u32, size: u32, g: u32) -> u32
     requires { ⌜ (clusters ≤ 8) × (size ≤ 8) × (clusters * size ≤ 16) ⌝ }
     ensures { λ r. ⌜ r ≡ testedMask size g clusters ⌝ }
@@ -58,7 +68,7 @@ fn tested_mask(clusters: u32, size: u32, g: u32) -> u32
     let mut tested: u32 = 0;
     let mut u: u32 = 0;
     while u < clusters {
-        if is_open(size, g, u) {
+        if has_outsider(size, g, u) {
             tested = seen;
             seen = seen + (1 << u);
         }
@@ -93,12 +103,12 @@ fn copy_down(levels: &mut [Symbol], a: usize, b: usize, n: usize)
 
 // Level k becomes level k - 1 eliminated by row i.
 fn descend(q: Symbol, rows: usize, cols: usize, k: usize, i: usize, levels: &mut [Symbol])
-    requires { ⌜ (length (now levels) ≡ 6528) × (rows ≤ 24) × (cols ≤ 16) × (0 < k) × (k ≤ 16) ⌝ }
+    requires { ⌜ (length (now levels) ≡ levelsSize) × (rows ≤ mostRows) × (cols ≤ 16) × (0 < k) × (k ≤ 16) ⌝ }
     ensures { λ _. ⌜ now (levels .exit) ≡ descended q rows cols k i (now (levels .entry)) ⌝ }
 {
     let n = rows * cols;
-    let b = k * 384;
-    let a = b - 384;
+    let b = k * LEVEL;
+    let a = b - LEVEL;
     let e = b + n;
     copy_down(levels, a, b, n);
     eliminate(q, rows, cols, i, &mut levels[b..e]);
@@ -126,7 +136,7 @@ fn gather(
     table: &[Symbol],
     out: &mut [Symbol],
 ) -> usize
-    requires { ⌜ (rows ≤ 24) × (cols ≤ 16) × (rows * cols ≡ length (now table)) × (rows * cols ≤ length (now out)) ⌝ }
+    requires { ⌜ (rows ≤ mostRows) × (cols ≤ 16) × (rows * cols ≡ length (now table)) × (rows * cols ≤ length (now out)) ⌝ }
     ensures { λ r. ⌜ (r ≡ howMany rows (chosen watch skip))
         × (take (r * cols) (now (out .exit)) ≡ picked rows (chosen watch skip) (rowOf cols (now (table .entry)))) ⌝ }
 {
@@ -151,10 +161,10 @@ fn are_dependent(
     skip: u32,
     table: &[Symbol],
 ) -> bool
-    requires { ⌜ (rows ≤ 24) × (cols ≤ 16) × (rows * cols ≡ length (now table)) ⌝ }
+    requires { ⌜ (rows ≤ mostRows) × (cols ≤ 16) × (rows * cols ≡ length (now table)) ⌝ }
     ensures { λ r. ⌜ r ≡ dependent q rows cols watch skip (now (table .entry)) ⌝ }
 {
-    let mut s = [0u16; 384];
+    let mut s = [0u16; LEVEL];
     let n = gather(rows, cols, watch, skip, table, &mut s);
     let m = n * cols;
     reduce_rows(q, n, cols, &mut s[..m]) != n
@@ -170,13 +180,13 @@ fn leaks_to(
     w: u16,
     levels: &[Symbol],
 ) -> bool
-    requires { ⌜ (length (now levels) ≡ 6528) × (clusters ≤ 8) × (size ≤ 8) × (clusters * size ≤ 16) × (cols ≤ 16) × (w ≤ clusters) ⌝ }
+    requires { ⌜ (length (now levels) ≡ levelsSize) × (clusters ≤ 8) × (size ≤ 8) × (clusters * size ≤ 16) × (cols ≤ 16) × (w ≤ clusters) ⌝ }
     ensures { λ r. ⌜ r ≡ dependent q (clusters * size + clusters) cols (watchMask clusters size g w) g
         (levelAt ((clusters * size + clusters) * cols) (now (levels .entry)) (ones g)) ⌝ }
 {
     let rows = clusters * size + clusters;
     let watch = watch_mask(clusters as u32, size as u32, g as u32, w as u32);
-    let b = u16::count_ones(g) as usize * 384;
+    let b = u16::count_ones(g) as usize * LEVEL;
     let e = b + rows * cols;
     are_dependent(q, rows, cols, watch, g as u32, &levels[b..e])
 }
@@ -191,7 +201,7 @@ fn walk_levels(
     cols: usize,
     levels: &mut [Symbol],
 ) -> Found
-    requires { ⌜ (length (now levels) ≡ 6528) × (clusters ≤ 8) × (size ≤ 8) × (clusters * size ≤ 16) × (cols ≤ 16) ⌝ }
+    requires { ⌜ (length (now levels) ≡ levelsSize) × (clusters ≤ 8) × (size ≤ 8) × (clusters * size ≤ 16) × (cols ≤ 16) ⌝ }
     ensures { λ r. ⌜ r ≡ walked (plan clusters size limit cols q) (take ((clusters * size + clusters) * cols) (now (levels .entry))) ⌝ }
 {
     let users = clusters * size;
@@ -283,8 +293,8 @@ fn sum_rows(
 
 // Level 0: the key table, and below it the sums of its clusters.
 fn set_base(plan: Plan, table: &[Symbol], levels: &mut [Symbol])
-    requires { ⌜ (inBounds plan ≡ true) × (length (now table) ≡ usersOf plan * plan .rate) × (0 < plan .q) × (length (now levels) ≡ 6528) ⌝ }
-    ensures { λ _. ⌜ (length (now (levels .exit)) ≡ 6528)
+    requires { ⌜ (inBounds plan ≡ true) × (length (now table) ≡ usersOf plan * plan .rate) × (0 < plan .q) × (length (now levels) ≡ levelsSize) ⌝ }
+    ensures { λ _. ⌜ (length (now (levels .exit)) ≡ levelsSize)
         × (take ((usersOf plan + plan .clusters) * plan .rate) (now (levels .exit)) ≡ baseTable plan (now (table .entry))) ⌝ }
 {
     let n = plan.clusters * plan.size * plan.rate;
@@ -305,7 +315,7 @@ pub(crate) fn find_leak(plan: Plan, table: &[Symbol]) -> Found
     requires { ⌜ (inBounds plan ≡ true) × (length (now table) ≡ usersOf plan * plan .rate) × (0 < plan .q) ⌝ }
     ensures { λ r. ⌜ r ≡ walked plan (baseTable plan (now (table .entry))) ⌝ }
 {
-    let mut levels = [0u16; 6528];
+    let mut levels = [0u16; LEVELS];
     set_base(plan, table, &mut levels);
     walk_levels(
         plan.q,

@@ -38,10 +38,12 @@ returns-3 c =
     let p = prime (c .before .before .before) in
     let f = fits (c .before) in
     ⊎-elim (λ w. rw (p, f, ne-eqb _ _ (w .taken)))
-    (⊎-elim (λ w. rw (p, f, eq-eqb _ _ (w .0 .left), not-true (sizedB s) (w .1 .taken))) (λ w. rw (p, f, eq-eqb _ _ (w .0 .left), not-false (sizedB s) (w .1 .left), not-true (sizedOut s) (w .2 .taken))))
+    (⊎-elim (λ w. rw (p, f, eq-eqb _ _ (w .0 .left), not-true (sizedB s) (w .1 .taken)))
+    (λ w. rw (p, f, eq-eqb _ _ (w .0 .left), not-false (sizedB s) (w .1 .left), not-true (sizedOut s) (w .2 .taken))))
     (c .if3 .came)
 
-sized : (c : tie.Else5) → (let s = c .before .before .before .before .before .before .before .before .before .before in (sizedA s && sizedB s && sizedOut s) ≡ true)
+sized : (c : tie.Else5) → (let s = c .before .before .before .before .before .before .before .before .before .before in (sizedA s && sizedB s && sizedOut s)
+    ≡ true)
 sized c =
     let s = c .before .before .before .before .before .before .before .before .before .before in
     rw (eq-eqb _ _ (c .before .before .if3 .left), not-false (sizedB s) (c .before .if4 .left), not-false (sizedOut s) (c .if5 .left))

@@ -21,7 +21,8 @@ loop-holds : tie.Need-loop-holds Inv-loop μ-loop
 loop-holds c = filling-none _ _ 0 refl
 
 loop-less : tie.Need-loop-less Inv-loop μ-loop
-loop-less c = let s = c .before .before .before .before .loop in filling-less (s .out) (s .p) (c .add-symbols .result) (c .before .before .before .loop-test .taken)
+loop-less c = let s = c .before .before .before .before .loop in filling-less (s .out) (s .p) (c .add-symbols .result)
+    (c .before .before .before .loop-test .taken)
 
 loop-again : tie.Need-loop-again Inv-loop μ-loop
 loop-again c =
@@ -30,7 +31,8 @@ loop-again c =
     let a = start .args in
     filling-next _ _ (s .out) (s .p) (c .add-symbols .result) (s .inv) (c .before .before .before .loop-test .taken)
     (c .add-symbols .ensures
-    ∙ symbol-sum (a .q) _ _ (below-at (a .q) (a .readings .now) (start .pre .0) (start .pre .3) (s .p)) (below-at (a .q) (a .key .now) (start .pre .0) (start .pre .4) (s .p)))
+    ∙ symbol-sum (a .q) _ _ (below-at (a .q) (a .readings .now) (start .pre .0) (start .pre .3) (s .p))
+    (below-at (a .q) (a .key .now) (start .pre .0) (start .pre .4) (s .p)))
 
 same-length : tie.Need-same-length Inv-loop μ-loop
 same-length c = c .before .loop .inv .whole

@@ -18,13 +18,37 @@ returns-3 : tie.Need-returns-3
 returns-3 c = simp (le-leb _ _ (c .before .before .if1 .left), le-leb _ _ (c .before .if2 .left), ne-eqb _ _ (c .if3 .taken))
 
 returns-4 : tie.Need-returns-4
-returns-4 c = simp (le-leb _ _ (c .before .before .before .before .if1 .left), le-leb _ _ (c .before .before .before .if2 .left), eq-eqb _ _ (c .before .before .if3 .left), sym (c .before .is-prime .ensures) ∙ not-true _ (c .if4 .taken))
+returns-4 c = simp (
+  le-leb _ _ (c .before .before .before .before .if1 .left),
+  le-leb _ _ (c .before .before .before .if2 .left),
+  eq-eqb _ _
+      (c .before .before .if3 .left),
+  sym (c .before .is-prime .ensures) ∙ not-true _ (c .if4 .taken),
+)
 
 returns-5 : tie.Need-returns-5
-returns-5 c = simp (le-leb _ _ (c .before .before .before .before .before .before .if1 .left), le-leb _ _ (c .before .before .before .before .before .if2 .left), eq-eqb _ _ (c .before .before .before .before .if3 .left), sym (c .before .before .before .is-prime .ensures) ∙ not-false _ (c .before .before .if4 .left), sym (c .before .all-below .ensures) ∙ not-true _ (c .if5 .taken))
+returns-5 c = simp (
+  le-leb _ _ (c .before .before .before .before .before .before .if1 .left),
+  le-leb _ _
+      (c .before .before .before .before .before .if2 .left),
+  eq-eqb _ _ (c .before .before .before .before .if3 .left),
+  sym
+      (c .before .before .before .is-prime .ensures) ∙ not-false _ (c .before .before .if4 .left),
+  sym (c .before .all-below .ensures) ∙ not-true _
+      (c .if5 .taken),
+)
 
 returns-6 : tie.Need-returns-6
-returns-6 c = simp (le-leb _ _ (c .before .before .before .before .before .before .if1 .left), le-leb _ _ (c .before .before .before .before .before .if2 .left), eq-eqb _ _ (c .before .before .before .before .if3 .left), sym (c .before .before .before .is-prime .ensures) ∙ not-false _ (c .before .before .if4 .left), sym (c .before .all-below .ensures) ∙ not-false _ (c .if5 .left))
+returns-6 c = simp (
+  le-leb _ _ (c .before .before .before .before .before .before .if1 .left),
+  le-leb _ _
+      (c .before .before .before .before .before .if2 .left),
+  eq-eqb _ _ (c .before .before .before .before .if3 .left),
+  sym
+      (c .before .before .before .is-prime .ensures) ∙ not-false _ (c .before .before .if4 .left),
+  sym (c .before .all-below .ensures) ∙ not-false _
+      (c .if5 .left),
+)
 
 pub check-rank-spec : {M : Type 1} → statement M
 check-rank-spec =

@@ -39,12 +39,14 @@ part-scale-end : tie.Need-part-scale-end
 part-scale-end c = fits (c .before .before .before .before)
 
 slice-aggregate-scale : tie.Need-slice-aggregate-scale
-slice-aggregate-scale c = sym (length-take-le (c .before .before .before .before .before .before .args .cols) _ (c .before .before .before .before .before .before .pre .1))
+slice-aggregate-scale c = sym (length-take-le (c .before .before .before .before .before .before .args .cols) _
+    (c .before .before .before .before .before .before .pre .1))
 
 scale-requires : tie.Need-scale-requires
 scale-requires c κs =
     let a = c .before .before .before .before .before .before .args in
-    length-row (a .cols) (a .i) (a .i * a .cols + a .cols - a .i * a .cols) (a .table .now) (add-sub-cancel-left _ _) (fits (c .before .before .before .before .before .before)) ∙ sym (length-take-le (a .cols) _ (c .before .before .before .before .before .before .pre .1))
+    length-row (a .cols) (a .i) (a .i * a .cols + a .cols - a .i * a .cols) (a .table .now) (add-sub-cancel-left _ _)
+    (fits (c .before .before .before .before .before .before)) ∙ sym (length-take-le (a .cols) _ (c .before .before .before .before .before .before .pre .1))
 
 mul-start : tie.Need-mul-start
 mul-start c = omega (arith, before-fits (c .before .before .before .before .before .before .before .before))
@@ -61,12 +63,15 @@ part-clear-rows-start c = before-fits (c .before .before .before .before .before
 array-share-prefix-s : tie.Need-array-share-prefix-s
 array-share-prefix-s c =
     let a = c .before .before .before .before .before .before .before .before .before .args in
-    front-room (a .q) (a .cols) (a .i) (a .i * a .cols + a .cols - a .i * a .cols) _ (a .table .now) (c .before .before .scale .last .1 .1 .1 .0) _ (add-sub-cancel-left _ _) (fits (c .before .before .before .before .before .before .before .before .before)) (c .before .before .scale .ensures)
+    front-room (a .q) (a .cols) (a .i) (a .i * a .cols + a .cols - a .i * a .cols) _ (a .table .now) (c .before .before .scale .last .1 .1 .1 .0) _
+    (add-sub-cancel-left _ _) (fits (c .before .before .before .before .before .before .before .before .before)) (c .before .before .scale .ensures)
 
 slice-aggregate-clear-rows : tie.Need-slice-aggregate-clear-rows
 slice-aggregate-clear-rows c =
     let a = c .before .before .before .before .before .before .before .before .before .before .args in
-    sym (front-length (a .q) (a .cols) (a .i) (a .i * a .cols + a .cols - a .i * a .cols) _ (a .table .now) (c .before .before .before .scale .last .1 .1 .1 .0) _ (add-sub-cancel-left _ _) (fits (c .before .before .before .before .before .before .before .before .before .before)) (c .before .before .before .scale .ensures))
+    sym (front-length (a .q) (a .cols) (a .i) (a .i * a .cols + a .cols - a .i * a .cols) _ (a .table .now)
+    (c .before .before .before .scale .last .1 .1 .1 .0) _ (add-sub-cancel-left _ _)
+    (fits (c .before .before .before .before .before .before .before .before .before .before)) (c .before .before .before .scale .ensures))
 
 clear-rows-requires : tie.Need-clear-rows-requires
 clear-rows-requires c κs =
@@ -74,7 +79,9 @@ clear-rows-requires c κs =
     let d = c .before .before .before .before .before .before .before .before .before .before .pre in (
       rest-size (a .rows) (a .cols) (a .from) (a .table .now) (d .2) (d .0) ∙ sym (ap length (rest-whole (a .from * a .cols) (a .table .now))),
       d .4,
-      front-length (a .q) (a .cols) (a .i) (a .i * a .cols + a .cols - a .i * a .cols) _ (a .table .now) (c .before .before .before .scale .last .1 .1 .1 .0) _ (add-sub-cancel-left _ _) (fits (c .before .before .before .before .before .before .before .before .before .before)) (c .before .before .before .scale .ensures),
+      front-length (a .q) (a .cols) (a .i) (a .i * a .cols + a .cols - a .i * a .cols) _ (a .table .now) (c .before .before .before .scale .last .1 .1 .1 .0) _
+          (add-sub-cancel-left _ _) (fits (c .before .before .before .before .before .before .before .before .before .before))
+          (c .before .before .before .scale .ensures),
     )
 
 returns : tie.Need-returns
@@ -83,9 +90,15 @@ returns c =
     let d = c .before .before .before .before .before .before .before .before .before .before .before .before .before .pre in
     rest-put (a .from * a .cols) (a .table .now) _ _
     (c .before .before .clear-rows .ensures
-    ∙ ap (λ (s : List ℕ). eachRow (cleared (a .q) (a .p) s) (a .rows - a .from) (a .cols) (take (length (a .table .now) - a .from * a .cols) (drop (a .from * a .cols) (a .table .now))))
-    (front-row (a .q) (a .cols) (a .i) (a .i * a .cols + a .cols - a .i * a .cols) _ (a .table .now) (c .before .before .before .before .before .before .scale .last .1 .1 .1 .0) _ (add-sub-cancel-left _ _) (fits (c .before .before .before .before .before .before .before .before .before .before .before .before .before)) (c .before .before .before .before .before .before .scale .ensures) (a .p) (d .4) (d .5) (c .before .before .before .before .before .before .before .before .before .before .inverse-mod .ensures))
-    ∙ ap₂ (λ (p : ℕ) (X : List ℕ). eachRow (cleared (a .q) p (pivotRow (a .q) (rowOf (a .cols) (a .table .now) (a .i)))) (a .rows - a .from) (a .cols) X) (d .5) (rest-whole (a .from * a .cols) (a .table .now)))
+    ∙ ap (λ (s : List ℕ). eachRow (cleared (a .q) (a .p) s) (a .rows - a .from) (a .cols)
+    (take (length (a .table .now) - a .from * a .cols) (drop (a .from * a .cols) (a .table .now))))
+    (front-row (a .q) (a .cols) (a .i) (a .i * a .cols + a .cols - a .i * a .cols) _ (a .table .now)
+    (c .before .before .before .before .before .before .scale .last .1 .1 .1 .0) _ (add-sub-cancel-left _ _)
+    (fits (c .before .before .before .before .before .before .before .before .before .before .before .before .before))
+    (c .before .before .before .before .before .before .scale .ensures) (a .p) (d .4) (d .5)
+    (c .before .before .before .before .before .before .before .before .before .before .inverse-mod .ensures))
+    ∙ ap₂ (λ (p : ℕ) (X : List ℕ). eachRow (cleared (a .q) p (pivotRow (a .q) (rowOf (a .cols) (a .table .now) (a .i)))) (a .rows - a .from) (a .cols) X) (d .5)
+    (rest-whole (a .from * a .cols) (a .table .now)))
 
 pub clear-from-spec : {M : Type 1} → statement M
 clear-from-spec =

@@ -12,7 +12,8 @@ use Rattle.matrices.proofs.clear_rows.Statement.{statement}
 use Rattle.matrices.proofs.clear_rows.Tie as tie
 
 abbrev Inv-loop : tie.InvT-loop
-Inv-loop q rows cols p table₀ s j₀ table j = (j ≤ rows) × (length table ≡ length table₀) × (take (j * cols) table ++ eachRow (cleared q p s) (rows - j) cols (drop (j * cols) table) ≡ eachRow (cleared q p s) rows cols table₀)
+Inv-loop q rows cols p table₀ s j₀ table j = (j ≤ rows) × (length table ≡ length table₀)
+    × (take (j * cols) table ++ eachRow (cleared q p s) (rows - j) cols (drop (j * cols) table) ≡ eachRow (cleared q p s) rows cols table₀)
 
 abbrev μ-loop : tie.MeasureT-loop
 μ-loop q rows cols p table₀ s j₀ table j = rows - j
@@ -21,7 +22,8 @@ loop-holds : tie.Need-loop-holds Inv-loop μ-loop
 loop-holds c = (omega arith, refl, rows-start _ (c .before .before .args .rows) (c .before .before .args .cols) _)
 
 -- row j lies in the table
-fits : (c : tie.In-loop Inv-loop μ-loop) → (let a = c .before .before .before .before .args in c .before .loop .j * a .cols + a .cols ≤ length (c .before .loop .table))
+fits : (c : tie.In-loop Inv-loop μ-loop) → (let a = c .before .before .before .before .args in c .before .loop .j * a .cols + a .cols ≤ length
+    (c .before .loop .table))
 fits c =
     let s = c .before .loop in
     let a = c .before .before .before .before .args in
@@ -50,7 +52,8 @@ clear-requires c κs =
     let s = c .before .before .loop in
     let a = c .before .before .before .before .before .args in
     let b : ℕ = s .j * a .cols in
-    let l : length (take (b + a .cols - b) (drop b (s .table))) ≡ b + a .cols - b = length-take-le (b + a .cols - b) (drop b (s .table)) (omega (arith, fits (c .before), length-drop b (s .table))) in
+    let l : length (take (b + a .cols - b) (drop b (s .table))) ≡ b + a .cols - b = length-take-le (b + a .cols - b) (drop b (s .table))
+    (omega (arith, fits (c .before), length-drop b (s .table))) in
     (l ∙ (omega (arith, c .before .before .before .before .before .pre .2)), omega (arith, l, c .before .before .before .before .before .pre .1))
 
 add-j : tie.Need-add-j Inv-loop μ-loop
@@ -69,7 +72,8 @@ loop-again c =
     let k : ℕ = b + a .cols - b in (
       omega (arith, c .before .before .before .before .loop-test .taken),
       same-len-mid b k (s .table) y (ap length (c .before .before .clear .ensures) ∙ length-cleared (a .q) (a .p) (a .s .now) _) ∙ s .inv .1,
-      rows-next f (length-cleared (a .q) (a .p) (a .s .now)) (a .rows) (a .cols) (s .j) k (s .table) _ y (omega arith) (c .before .before .before .before .loop-test .taken) (fits (c .before .before .before .before)) (c .before .before .clear .ensures) (s .inv .2),
+      rows-next f (length-cleared (a .q) (a .p) (a .s .now)) (a .rows) (a .cols) (s .j) k (s .table) _ y (omega arith)
+          (c .before .before .before .before .loop-test .taken) (fits (c .before .before .before .before)) (c .before .before .clear .ensures) (s .inv .2),
     )
 
 same-length : tie.Need-same-length Inv-loop μ-loop
@@ -79,7 +83,8 @@ returns : tie.Need-returns Inv-loop μ-loop
 returns c =
     let s = c .before .loop in
     let a = c .before .before .before .before .args in
-    rows-end (cleared (a .q) (a .p) (a .s .now)) (length-cleared (a .q) (a .p) (a .s .now)) (a .rows) (a .cols) (s .j) 0 (s .table) _ (c .loop-test .left) (s .inv .2)
+    rows-end (cleared (a .q) (a .p) (a .s .now)) (length-cleared (a .q) (a .p) (a .s .now)) (a .rows) (a .cols) (s .j) 0 (s .table) _ (c .loop-test .left)
+    (s .inv .2)
 
 pub clear-rows-spec : {M : Type 1} → statement M
 clear-rows-spec =

@@ -46,7 +46,8 @@ returns c =
     let s = c .before .before .before .before .before .before .before in
     let a = s .args in
     c .before .count-pivots .ensures .0
-    ∙ ap (pivotsFrom (a .q) (a .rows) (a .cols) (a .rows) 0) (copied-front _ _ _ (a .rows * a .cols) (c .before .before .before .before .copy-all .ensures) (s .pre .2))
+    ∙ ap (pivotsFrom (a .q) (a .rows) (a .cols) (a .rows) 0)
+    (copied-front _ _ _ (a .rows * a .cols) (c .before .before .before .before .copy-all .ensures) (s .pre .2))
 
 pub count-in-copy-spec : {M : Type 1} → statement M
 count-in-copy-spec =

@@ -48,7 +48,9 @@ at-most true = omega arith
 at-most false = omega arith
 
 -- one more where row i was not 0
-counted : (c : tie.Joined1 Inv-loop μ-loop) → (let s = c .before .before .before .before .before .before .loop in let a = c .before .before .before .before .before .before .before .before .args in c .if1 .n ≡ s .n + cond (hasPivot (a .rows) (a .cols) (s .i) (s .table)) 1 0)
+counted : (c : tie.Joined1 Inv-loop μ-loop) → (let s = c .before .before .before .before .before .before .loop in
+    let a = c .before .before .before .before .before .before .before .before .args in c .if1 .n ≡ s .n + cond
+    (hasPivot (a .rows) (a .cols) (s .i) (s .table)) 1 0)
 counted c =
     let s = c .before .before .before .before .before .before .loop in
     let told = c .before .before .before .eliminate-from .ensures .0 in
@@ -58,7 +60,12 @@ counted c =
     (c .if1 .came)
 
 add-n : tie.Need-add-n Inv-loop μ-loop
-add-n c = omega (arith, c .before .before .before .before .before .before .loop .inv .0, c .before .before .before .before .before .before .loop .inv .1, c .before .before .before .before .before .loop-test .taken)
+add-n c = omega (
+  arith,
+  c .before .before .before .before .before .before .loop .inv .0,
+  c .before .before .before .before .before .before .loop .inv .1,
+  c .before .before .before .before .before .loop-test .taken,
+)
 
 add-i : tie.Need-add-i Inv-loop μ-loop
 add-i c = omega (arith, c .before .before .before .before .before .loop-test .taken)
@@ -71,10 +78,12 @@ loop-again c =
     let s = c .before .before .before .before .before .before .loop in
     let a = c .before .before .before .before .before .before .before .before .args in
     let h = c .before .before .before .before .before .loop-test .taken in
-    let e : c .before .before .before .eliminate-from .last .1 .1 .1 .1 .1 .0 ≡ eliminatedFrom (a .q) (a .rows) (a .cols) (s .i + 1) (s .i) (s .table) = c .before .before .before .eliminate-from .ensures .1 in (
+    let e : c .before .before .before .eliminate-from .last .1 .1 .1 .1 .1 .0 ≡ eliminatedFrom (a .q) (a .rows) (a .cols) (s .i + 1) (s .i)
+    (s .table) = c .before .before .before .eliminate-from .ensures .1 in (
       omega (arith, h),
       omega (arith, s .inv .1, counted c, at-most (hasPivot (a .rows) (a .cols) (s .i) (s .table))),
-      ap length e ∙ length-eliminated (a .q) (a .rows) (a .cols) (s .i) (s .table) (s .i + 1) (c .before .before .before .before .before .before .before .before .pre .2 ∙ sym (s .inv .2)) (omega (arith, h)) ∙ s .inv .2,
+      ap length e ∙ length-eliminated (a .q) (a .rows) (a .cols) (s .i) (s .table) (s .i + 1)
+          (c .before .before .before .before .before .before .before .before .pre .2 ∙ sym (s .inv .2)) (omega (arith, h)) ∙ s .inv .2,
       ap₂ (λ (m : ℕ) (X : List ℕ). m + pivotsFrom (a .q) (a .rows) (a .cols) (a .rows - (s .i + 1)) (s .i + 1) X) (counted c) e
           ∙ count-next (a .q) (a .rows) (a .cols) (s .i) (s .n) _ (s .table) h (s .inv .3),
       ap (reducedFrom (a .q) (a .rows) (a .cols) (a .rows - (s .i + 1)) (s .i + 1)) e

@@ -28,7 +28,13 @@ returns-4 : tie.Need-returns-4
 returns-4 c =
     let a = c .before .before .before .before .before .args in
     no-pivot (a .q) (a .rows) (a .cols) (a .i) (a .table .now) 0
-    (rw (le-leb _ _ (c .before .before .before .if1 .left), le-leb _ _ (c .before .before .if2 .left), eq-eqb _ _ (c .before .if3 .left), le-ltb _ _ (c .if4 .taken)))
+    (rw (
+      le-leb _ _ (c .before .before .before .if1 .left),
+      le-leb _ _ (c .before .before .if2 .left),
+      eq-eqb _ _ (c .before .if3 .left),
+      le-ltb _ _
+          (c .if4 .taken),
+    ))
 
 pub eliminate-spec : {M : Type 1} → statement M
 eliminate-spec =

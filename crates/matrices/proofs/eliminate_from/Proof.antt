@@ -15,11 +15,13 @@ use Rattle.matrices.proofs.eliminate_from.Tie as tie
 fits : (s : tie.Start) → s .args .i * s .args .cols + s .args .cols ≤ length (s .args .table .now)
 fits s = row-fits (s .args .rows) (s .args .cols) (s .args .i) (length (s .args .table .now)) (s .pre .4) (s .pre .2)
 
-is-pivot : (s : tie.Start) → (let a = s .args in hasPivot (a .rows) (a .cols) (a .i) (a .table .now) ≡ ltb (pivotOf (rowOf (a .cols) (a .table .now) (a .i))) (a .cols))
+is-pivot : (s : tie.Start) → (let a = s .args in hasPivot (a .rows) (a .cols) (a .i) (a .table .now) ≡ ltb (pivotOf (rowOf (a .cols) (a .table .now) (a .i)))
+    (a .cols))
 is-pivot s = pivot-is 0 (s .args .rows) (s .args .cols) (s .args .i) (s .args .table .now) (s .pre .0) (s .pre .1) (s .pre .2) (s .pre .4)
 
 -- the part that was lent is row i
-found : (s : tie.Start) {p : ℕ} → (let a = s .args in p ≡ pivotOf (take (a .i * a .cols + a .cols - a .i * a .cols) (drop (a .i * a .cols) (a .table .now))) → p ≡ pivotOf (rowOf (a .cols) (a .table .now) (a .i)))
+found : (s : tie.Start) {p : ℕ} → (let a = s .args in p ≡ pivotOf (take (a .i * a .cols + a .cols - a .i * a .cols) (drop (a .i * a .cols) (a .table .now))) → p
+    ≡ pivotOf (rowOf (a .cols) (a .table .now) (a .i)))
 found s e =
     let a = s .args in
     let k : a .i * a .cols + a .cols - a .i * a .cols ≡ a .cols = add-sub-cancel-left _ _ in

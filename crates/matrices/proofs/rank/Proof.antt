@@ -10,7 +10,8 @@ use Rattle.matrices.proofs.rank.Statement.{statement}
 use Rattle.matrices.proofs.rank.Tie as tie
 
 -- the checks accepted
-told : (c : tie.After-enum-told) → (let a = c .before .before .before .before .args in accepted ≡ firstOf (rankChecks (a .q) (a .rows) (a .cols) (a .table .now)))
+told : (c : tie.After-enum-told) → (let a = c .before .before .before .before .args in accepted ≡ firstOf
+    (rankChecks (a .q) (a .rows) (a .cols) (a .table .now)))
 told c = sym (ap verdictCode (c .enum-told .given .1)) ∙ c .before .before .check-rank .ensures
 
 passed : (c : tie.After-enum-told) → (let a = c .before .before .before .before .args in Passed (a .q) (a .rows) (a .cols) (a .table .now))
@@ -29,7 +30,8 @@ returns-2 : tie.Need-returns-2
 returns-2 c =
     let a = c .before .before .before .before .before .args in
     let p = passed (c .before) in
-    ap (λ (n : ℕ). record { refusal = accepted; value = n }) (c .count-in-copy .ensures ∙ pivots-are-rank (a .q) (p .prime) (a .rows) (a .cols) (a .table .now) (p .table))
+    ap (λ (n : ℕ). record { refusal = accepted; value = n })
+    (c .count-in-copy .ensures ∙ pivots-are-rank (a .q) (p .prime) (a .rows) (a .cols) (a .table .now) (p .table))
     ∙ accepted-outcome (rankChecks (a .q) (a .rows) (a .cols) (a .table .now)) _ (told (c .before))
 
 pub rank-spec : {M : Type 1} → statement M

@@ -14,10 +14,26 @@ returns-3 : tie.Need-returns-3
 returns-3 c = rw (le-ltb _ _ (c .before .before .before .before .if1 .left), eq-eqb _ _ (c .before .before .if2 .left), ne-eqb _ _ (c .if3 .taken))
 
 returns-4 : tie.Need-returns-4
-returns-4 c = rw (le-ltb _ _ (c .before .before .before .before .before .before .if1 .left), eq-eqb _ _ (c .before .before .before .before .if2 .left), eq-eqb _ _ (c .before .before .if3 .left), sym (c .before .distance-in .ensures), lt-ltb (c .before .distance-in .result) 10 (omega (arith, c .if4 .taken)))
+returns-4 c = rw (
+  le-ltb _ _ (c .before .before .before .before .before .before .if1 .left),
+  eq-eqb _ _
+      (c .before .before .before .before .if2 .left),
+  eq-eqb _ _ (c .before .before .if3 .left),
+  sym (c .before .distance-in .ensures),
+  lt-ltb
+      (c .before .distance-in .result) 10 (omega (arith, c .if4 .taken)),
+)
 
 returns-5 : tie.Need-returns-5
-returns-5 c = rw (le-ltb _ _ (c .before .before .before .before .before .before .if1 .left), eq-eqb _ _ (c .before .before .before .before .if2 .left), eq-eqb _ _ (c .before .before .if3 .left), sym (c .before .distance-in .ensures), le-ltb (c .before .distance-in .result) 10 (omega (arith, c .if4 .left)))
+returns-5 c = rw (
+  le-ltb _ _ (c .before .before .before .before .before .before .if1 .left),
+  eq-eqb _ _
+      (c .before .before .before .before .if2 .left),
+  eq-eqb _ _ (c .before .before .if3 .left),
+  sym (c .before .distance-in .ensures),
+  le-ltb
+      (c .before .distance-in .result) 10 (omega (arith, c .if4 .left)),
+)
 
 pub bad-trailer-spec : {M : Type 1} → statement M
 bad-trailer-spec =

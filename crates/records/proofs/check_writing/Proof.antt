@@ -10,7 +10,7 @@ use Rattle.refusals.specs.Codes.{code, accepted, firstOf}
 use Rattle.refusals.proofs.Answers.{passes, first-answers}
 use Rattle.refusals.proofs.Orders.{rest-decides}
 use Rattle.plans.specs.Plans.{tableChecks}
-use Rattle.records.specs.Records.{recordSize, writeVerdict}
+use Rattle.records.specs.Records.{recordSize, writeCode}
 use Rattle.plans.proofs.TableLaws.{table-passed}
 use Rattle.records.proofs.check_writing.Statement.{statement}
 use Rattle.records.proofs.check_writing.Tie as tie
@@ -23,13 +23,15 @@ returns : tie.Need-returns
 returns c =
     let s = c .before .before .before .before .before in
     let checked = c .before .before .check-plan in
-    first-answers (tableChecks (s .args .plan) (s .args .table .now)) (room s) (checked .result) (checked .ensures) (c .before .is-accepted .ensures) (c .if1 .taken)
+    first-answers (tableChecks (s .args .plan) (s .args .table .now)) (room s) (checked .result) (checked .ensures) (c .before .is-accepted .ensures)
+    (c .if1 .taken)
 
 -- the others accepted, so that it decides
 told : (c : tie.Else1) → (let a = c .before .before .before .before .before .args in accepted ≡ firstOf (tableChecks (a .plan) (a .table .now)))
 told c = passes (c .before .before .check-plan .result) (c .before .before .check-plan .ensures) (c .before .is-accepted .ensures) (not-false _ (c .if1 .left))
 
-decides : (c : tie.Else1) → (let s = c .before .before .before .before .before in firstOf (room s) ≡ writeVerdict (s .args .plan) (s .args .table .now) (s .args .out .now))
+decides : (c : tie.Else1) → (let s = c .before .before .before .before .before in firstOf (room s) ≡ writeCode (s .args .plan) (s .args .table .now)
+    (s .args .out .now))
 decides c = let s = c .before .before .before .before .before in rest-decides (tableChecks (s .args .plan) (s .args .table .now)) (room s) tt (told c)
 
 record-size-requires : tie.Need-record-size-requires

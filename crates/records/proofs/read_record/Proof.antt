@@ -6,14 +6,14 @@ use native.Mathlib.Omega.{arith}
 use Rattle.refusals.specs.Codes.{accepted}
 use Rattle.refusals.proofs.CodeLaws.{refused-keeps, accepted-takes}
 use Rattle.plans.specs.Plans.{plannedCode, plannedPlan, inBounds, noPlan}
-use Rattle.records.specs.Records.{planRead, tableRead, readVerdict, padded}
+use Rattle.records.specs.Records.{planRead, tableRead, readCode, padded}
 use Rattle.records.proofs.RecordChecks.{Readable, readable, read-words, words-inside}
 use Rattle.records.proofs.PlanSizes.{bounded}
 use Rattle.records.proofs.read_record.Statement.{statement}
 use Rattle.records.proofs.read_record.Tie as tie
 
 -- the checks accepted
-told : (c : tie.After-planned) → (let a = c .before .before .before .before .before .before .args in accepted ≡ readVerdict (a .bytes .now) (a .table .now))
+told : (c : tie.After-planned) → (let a = c .before .before .before .before .before .before .args in accepted ≡ readCode (a .bytes .now) (a .table .now))
 told c = sym (ap plannedCode (c .planned .given .1)) ∙ c .before .before .check-record .ensures .0
 
 passed : (c : tie.After-planned) → (let a = c .before .before .before .before .before .before .args in Readable (a .bytes .now) (a .table .now))
@@ -23,7 +23,7 @@ plan-is : (c : tie.After-planned) → c .planned .given .0 .0 ≡ planRead (c .b
 plan-is c =
     let a = c .before .before .before .before .before .before .args in
     sym (ap plannedPlan (c .planned .given .1)) ∙ c .before .before .check-record .ensures .1
-    ∙ accepted-takes (readVerdict (a .bytes .now) (a .table .now)) (planRead (a .bytes .now)) noPlan (told c)
+    ∙ accepted-takes (readCode (a .bytes .now) (a .table .now)) (planRead (a .bytes .now)) noPlan (told c)
 
 in-range : (c : tie.After-planned) → inBounds (c .planned .given .0 .0) ≡ true
 in-range c = ap inBounds (plan-is c) ∙ passed c .bounds
@@ -38,7 +38,8 @@ fill-requires : tie.Need-fill-requires
 fill-requires c κs =
     let p = c .before .before .before .before in
     let B : List ℕ = p .before .before .before .before .before .before .args .bytes .now in (
-      words-inside B (p .planned .given .0 .0) _ _ (plan-is p) (c .before .symbols .ensures) (c .before .before .start-in .ensures) (passed p .trailer) (passed p .size),
+      words-inside B (p .planned .given .0 .0) _ _ (plan-is p) (c .before .symbols .ensures) (c .before .before .start-in .ensures) (passed p .trailer)
+          (passed p .size),
       omega (arith, c .before .symbols .ensures, bounded (p .planned .given .0 .0) (in-range p) .symbols),
       passed p .lent,
     )
@@ -49,11 +50,12 @@ returns c =
     let a = p .before .before .before .before .before .before .args in
     let B : List ℕ = a .bytes .now in
     let out : List ℕ = a .table .now in
-    let words = read-words B (p .planned .given .0 .0) _ _ (plan-is p) (c .before .before .before .before .symbols .ensures) (c .before .before .before .before .before .start-in .ensures) in (
+    let words = read-words B (p .planned .given .0 .0) _ _ (plan-is p) (c .before .before .before .before .symbols .ensures)
+    (c .before .before .before .before .before .start-in .ensures) in (
       told p,
       (
-        plan-is p ∙ sym (accepted-takes (readVerdict B out) (planRead B) noPlan (told p)),
-        c .before .before .fill .ensures ∙ ap padded words ∙ sym (accepted-takes (readVerdict B out) (padded (tableRead B)) out (told p)),
+        plan-is p ∙ sym (accepted-takes (readCode B out) (planRead B) noPlan (told p)),
+        c .before .before .fill .ensures ∙ ap padded words ∙ sym (accepted-takes (readCode B out) (padded (tableRead B)) out (told p)),
       ),
     )
 
@@ -64,7 +66,7 @@ returns-2 c =
     let out : List ℕ = a .table .now in
     let (e, plan) = c .before .before .check-record .ensures in
     let r = c .enum-told .given .0 .0 in
-    (e, (plan, sym (refused-keeps (readVerdict B out) (padded (tableRead B)) out r (sym (ap plannedCode (c .enum-told .given .1)) ∙ e))))
+    (e, (plan, sym (refused-keeps (readCode B out) (padded (tableRead B)) out r (sym (ap plannedCode (c .enum-told .given .1)) ∙ e))))
 
 pub read-record-spec : {M : Type 1} → statement M
 read-record-spec =

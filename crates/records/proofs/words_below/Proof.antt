@@ -36,8 +36,11 @@ loop-less c = omega (arith, c .before .before .loop-test .taken)
 
 loop-again : tie.Need-loop-again Inv-loop μ-loop
 loop-again c =
-    let s = c .before .before .before .loop in
-    (omega (arith, s .inv .0, c .before .before .loop-test .taken), sym (word-below _ _ _ (s .i) (c .before .before .loop-test .taken) (omega (arith, c .if1 .left, c .before .word-at .ensures))) ∙ s .inv .1)
+    let s = c .before .before .before .loop in (
+      omega (arith, s .inv .0, c .before .before .loop-test .taken),
+      sym
+          (word-below _ _ _ (s .i) (c .before .before .loop-test .taken) (omega (arith, c .if1 .left, c .before .word-at .ensures))) ∙ s .inv .1,
+    )
 
 returns-2 : tie.Need-returns-2 Inv-loop μ-loop
 returns-2 c = sym (no-words-below _ _ (c .before .loop .left) (c .before .loop .i) (c .loop-test .left)) ∙ c .before .loop .inv .1

@@ -15,7 +15,8 @@ use Rattle.records.proofs.write_parts.Tie as tie
 head-length : (c : tie.After-write-head) → length (c .write-head .last .1 .0) ≡ 6
 head-length c = ap length (c .write-head .ensures)
 
-body-length : (c : tie.After-write-symbols) → (let n : ℕ = length (c .before .before .before .before .before .before .before .before .args .out .now) in length (c .write-symbols .last .1 .0) ≡ n - 4 - 6)
+body-length : (c : tie.After-write-symbols) → (let n : ℕ = length (c .before .before .before .before .before .before .before .before .args .out .now) in length
+    (c .write-symbols .last .1 .0) ≡ n - 4 - 6)
 body-length c =
     let s = c .before .before .before .before .before .before .before .before in
     ap length (c .write-symbols .ensures) ∙ omega (arith, length-bytes (s .args .table .now), s .pre .1, s .pre .2)
@@ -28,8 +29,14 @@ slice-aggregate-write-head c =
 write-head-requires : tie.Need-write-head-requires
 write-head-requires c κs =
     let s = c .before .before .before in
-    let p = bounded (s .args .plan) (s .pre .0) in
-    (omega (arith, p .clusters), omega (arith, p .size), omega (arith, p .limit), omega (arith, p .rate), length-take-le 6 (s .args .out .now) (omega (arith, s .pre .2)))
+    let p = bounded (s .args .plan) (s .pre .0) in (
+      omega (arith, p .clusters),
+      omega (arith, p .size),
+      omega (arith, p .limit),
+      omega (arith, p .rate),
+      length-take-le 6 (s .args .out .now)
+          (omega (arith, s .pre .2)),
+    )
 
 write-trailer-requires : tie.Need-write-trailer-requires
 write-trailer-requires c κs =
@@ -37,7 +44,9 @@ write-trailer-requires c κs =
     let n : ℕ = length (s .args .out .now) in
     let p = bounded (s .args .plan) (s .pre .0) in (
       omega (arith, p .symbols, s .pre .2),
-      rest-length (s .args .out .now) (c .before .before .before .before .before .before .before .write-head .last .1 .0) (c .before .before .before .write-symbols .last .1 .0) 6 (n - 4) (head-length (c .before .before .before .before .before .before .before)) (body-length (c .before .before .before)) (omega (arith, s .pre .2)) (omega arith) ∙ omega (arith, s .pre .2),
+      rest-length (s .args .out .now) (c .before .before .before .before .before .before .before .write-head .last .1 .0)
+          (c .before .before .before .write-symbols .last .1 .0) 6 (n - 4) (head-length (c .before .before .before .before .before .before .before))
+          (body-length (c .before .before .before)) (omega (arith, s .pre .2)) (omega arith) ∙ omega (arith, s .pre .2),
     )
 
 returns : tie.Need-returns
@@ -48,8 +57,11 @@ returns c =
     let x : List ℕ = c .before .before .before .before .before .before .before .before .before .before .write-head .last .1 .0 in
     let y : List ℕ = c .before .before .before .before .before .before .write-symbols .last .1 .0 in
     let z : List ℕ = c .before .before .write-trailer .last .1 .0 in
-    three-parts (a .out .now) x y 6 (n - 4) (head-length (c .before .before .before .before .before .before .before .before .before .before)) (body-length (c .before .before .before .before .before .before)) (omega (arith, s .pre .2)) (omega arith) z
-    ∙ ap₂ (λ (u v : List ℕ). u ++ v) (ap₂ (λ (u v : List ℕ). u ++ v) (c .before .before .before .before .before .before .before .before .before .before .write-head .ensures) (c .before .before .before .before .before .before .write-symbols .ensures)) (c .before .before .write-trailer .ensures ∙ ap trailerOf (s .pre .2))
+    three-parts (a .out .now) x y 6 (n - 4) (head-length (c .before .before .before .before .before .before .before .before .before .before))
+    (body-length (c .before .before .before .before .before .before)) (omega (arith, s .pre .2)) (omega arith) z
+    ∙ ap₂ (λ (u v : List ℕ). u ++ v) (ap₂ (λ (u v : List ℕ). u ++ v)
+    (c .before .before .before .before .before .before .before .before .before .before .write-head .ensures)
+    (c .before .before .before .before .before .before .write-symbols .ensures)) (c .before .before .write-trailer .ensures ∙ ap trailerOf (s .pre .2))
     ∙ sym (record-parts (a .plan) (a .table .now))
 
 pub write-parts-spec : {M : Type 1} → statement M
@@ -68,5 +80,6 @@ write-parts-spec =
     (λ c. omega arith)
     (λ c. omega arith)
     write-trailer-requires
-    (λ c. c .before .out3 .given .1 ∙ c .before .before .before .before .before .out2 .given .1 ∙ c .before .before .before .before .before .before .before .before .before .out .given .1)
+    (λ c. c .before .out3 .given .1 ∙ c .before .before .before .before .before .out2 .given .1
+    ∙ c .before .before .before .before .before .before .before .before .before .out .given .1)
     returns)

@@ -29,7 +29,8 @@ two-fields a b = omega (arith, length-append (field a 0x20) (field b 0x20), fiel
 after-one : (c : tie.After-put-field) → c .put-field .result ≡ lineWith (field (c .before .before .args .code .number) 0x20)
 after-one c = typed-on [] _ _ _ _ (omega arith) (c .before .empty-line .ensures) (c .put-field .ensures)
 
-after-two : (c : tie.After-put-field2) → (let a = c .before .before .before .args .code in c .put-field2 .result ≡ lineWith (field (a .number) 0x20 ++ field (a .first) 0x20))
+after-two : (c : tie.After-put-field2) → (let a = c .before .before .before .args .code in c .put-field2 .result ≡ lineWith
+    (field (a .number) 0x20 ++ field (a .first) 0x20))
 after-two c =
     let n : ℕ = c .before .before .before .args .code .number in
     typed-on (field n 0x20) _ _ _ _ (omega (arith, field-length n 0x20)) (after-one (c .before)) (c .put-field2 .ensures)
@@ -50,7 +51,8 @@ put-field-requires-3 c κs =
 returns : tie.Need-returns
 returns c =
     let a = c .before .before .before .before .args .code in
-    typed-on (field (a .number) 0x20 ++ field (a .first) 0x20) _ _ _ _ (omega (arith, two-fields (a .number) (a .first))) (after-two (c .before)) (c .put-field3 .ensures)
+    typed-on (field (a .number) 0x20 ++ field (a .first) 0x20) _ _ _ _ (omega (arith, two-fields (a .number) (a .first))) (after-two (c .before))
+    (c .put-field3 .ensures)
 
 pub line-of-spec : {M : Type 1} → statement M
 line-of-spec =

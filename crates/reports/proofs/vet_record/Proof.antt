@@ -13,8 +13,8 @@ use Rattle.refusals.proofs.CodeLaws.{accepted-takes}
 use Rattle.lists.specs.Lists.{zeros}
 use Rattle.plans.specs.declared.Plan.{Plan}
 use Rattle.plans.specs.Plans.{usersOf, inBounds, noPlan, plannedCode, plannedPlan}
-use Rattle.vetting.specs.Verdict.{vetChecks, verdict}
-use Rattle.records.specs.Records.{start, planRead, tableRead, readChecks, readVerdict, padded}
+use Rattle.vetting.specs.Vet.{vetChecks, vetCode}
+use Rattle.records.specs.Records.{start, planRead, tableRead, readChecks, readCode, padded}
 use Rattle.reports.specs.Program.{programCode}
 use Rattle.refusals.proofs.Orders.{first-refuses, rest-decides}
 use Rattle.records.proofs.RecordChecks.{Readable, readable}
@@ -42,7 +42,7 @@ module _ (c : tie.After-plan) where
   abbrev filled : List ℕ
   filled = c .before .before .before .read-record .last .1 .0
 
-  told : accepted ≡ readVerdict B lent
+  told : accepted ≡ readCode B lent
   told = sym (ap plannedCode (c .plan .given .1)) ∙ c .before .before .before .read-record .ensures .0
 
   passed : Readable B lent
@@ -51,11 +51,11 @@ module _ (c : tie.After-plan) where
   plan-is : c .plan .given .0 .0 ≡ planRead B
   plan-is =
       sym (ap plannedPlan (c .plan .given .1)) ∙ c .before .before .before .read-record .ensures .1 .0
-      ∙ accepted-takes (readVerdict B lent) (planRead B) noPlan told
+      ∙ accepted-takes (readCode B lent) (planRead B) noPlan told
 
   table-is : filled ≡ padded (tableRead B)
   table-is =
-      c .before .before .before .read-record .ensures .1 .1 ∙ accepted-takes (readVerdict B lent) (padded (tableRead B)) lent told
+      c .before .before .before .read-record .ensures .1 .1 ∙ accepted-takes (readCode B lent) (padded (tableRead B)) lent told
 
   in-range : inBounds (c .plan .given .0 .0) ≡ true
   in-range = ap inBounds plan-is ∙ passed .bounds
@@ -82,9 +82,9 @@ module _ (c : tie.After-plan) where
   part-length : n ≡ length (take n filled)
   part-length = whole ∙ sym (ap length part-is)
 
-  vetted : (v : Code) → v ≡ verdict (c .plan .given .0 .0) (take n filled) → v ≡ firstOf (readChecks B lent ++ vetChecks (planRead B) (tableRead B))
+  vetted : (v : Code) → v ≡ vetCode (c .plan .given .0 .0) (take n filled) → v ≡ firstOf (readChecks B lent ++ vetChecks (planRead B) (tableRead B))
   vetted v e =
-      e ∙ ap₂ verdict plan-is part-is
+      e ∙ ap₂ vetCode plan-is part-is
       ∙ rest-decides (readChecks B lent) (vetChecks (planRead B) (tableRead B)) tt told
 
 returns : tie.Need-returns

@@ -11,7 +11,7 @@ use Rattle.refusals.specs.declared.Code.{Code}
 use Rattle.refusals.specs.Codes.{accepted, firstOf}
 use Rattle.plans.specs.Plans.{usersOf, lengthFits}
 use Rattle.plans.proofs.PlanBounds.{length-known}
-use Rattle.vetting.specs.Verdict.{vetChecks}
+use Rattle.vetting.specs.Vet.{vetChecks}
 use Rattle.keys.specs.Keys.{keyChecks}
 use Rattle.refusals.proofs.Answers.{passes, first-answers}
 use Rattle.vetting.proofs.PlanLaws.{Vetted, vetted}
@@ -23,7 +23,8 @@ returns : tie.Need-returns
 returns c =
     let a = c .before .before .before .before .before .before .args in
     let vetted = c .before .before .vet in
-    first-answers (vetChecks (a .plan) (a .table .now)) (blockChecks (a .plan) (a .length) (a .source .now) (a .keys .now)) (vetted .result) (vetted .ensures) (c .before .is-accepted .ensures) (c .if1 .taken)
+    first-answers (vetChecks (a .plan) (a .table .now)) (blockChecks (a .plan) (a .length) (a .source .now) (a .keys .now)) (vetted .result) (vetted .ensures)
+    (c .before .is-accepted .ensures) (c .if1 .taken)
 
 -- the vet accepted
 told : (c : tie.Else1) → (let a = c .before .before .before .before .before .before .args in accepted ≡ firstOf (vetChecks (a .plan) (a .table .now)))
@@ -36,9 +37,12 @@ known c = let a = c .before .before .before .before .before .before .args in vet
 blocks : tie.Start → Code
 blocks s = firstOf (blockChecks (s .args .plan) (s .args .length) (s .args .source .now) (s .args .keys .now))
 
-decide : (c : tie.Else1) {d : Code} → d ≡ blocks (c .before .before .before .before .before .before) → (let a = c .before .before .before .before .before .before .args in d ≡ firstOf (keyChecks (a .plan) (a .table .now) (a .length) (a .source .now) (a .keys .now)))
+decide : (c : tie.Else1) {d : Code} → d ≡ blocks (c .before .before .before .before .before .before)
+    → (let a = c .before .before .before .before .before .before .args in d ≡ firstOf
+    (keyChecks (a .plan) (a .table .now) (a .length) (a .source .now) (a .keys .now)))
 unfolding blocks
-decide c e = let a = c .before .before .before .before .before .before .args in e ∙ blocks-decide (a .plan) (a .table .now) (a .length) (a .source .now) (a .keys .now) (told c)
+decide c e = let a = c .before .before .before .before .before .before .args in e ∙ blocks-decide (a .plan) (a .table .now) (a .length) (a .source .now)
+    (a .keys .now) (told c)
 
 returns-2 : tie.Need-returns-2
 unfolding blocks
@@ -57,13 +61,22 @@ wholeSource s = eqb (length (s .args .source .now)) (s .args .length * s .args .
 abbrev wholeKeys : tie.Start → Bool
 wholeKeys s = eqb (length (s .args .keys .now)) (usersOf (s .args .plan) * s .args .length)
 
-whole : (c : tie.Else4) → (let s = c .before .before .before .before .before .before .before .before .before .before .before .before in (wholeSource s && wholeKeys s) ≡ true)
-whole c = simp (eq-eqb _ _ (c .before .before .if3 .left), not-false (wholeKeys (c .before .before .before .before .before .before .before .before .before .before .before .before)) (c .if4 .left))
+whole : (c : tie.Else4) → (let s = c .before .before .before .before .before .before .before .before .before .before .before .before in
+    (wholeSource s && wholeKeys s) ≡ true)
+whole c = simp (
+  eq-eqb _ _ (c .before .before .if3 .left),
+  not-false
+      (wholeKeys (c .before .before .before .before .before .before .before .before .before .before .before .before)) (c .if4 .left),
+)
 
 mul-if3 : tie.Need-mul-if3
 mul-if3 c =
     let a = c .before .before .before .before .before .before .before .before .before .args in
-    omega (arith, mul-le-mul {n₁ = a .length} {m₁ = a .plan .rate} {n₂ = 64} {m₂ = 16} (short (c .before)) (known (c .before .before .before) .bounds .few-symbols))
+    omega (
+      arith,
+      mul-le-mul {n₁ = a .length} {m₁ = a .plan .rate} {n₂ = 64} {m₂ = 16} (short (c .before))
+          (known (c .before .before .before) .bounds .few-symbols),
+    )
 
 mul-if4 : tie.Need-mul-if4
 mul-if4 c = omega (arith, known (c .before .before .before .before .before) .bounds .counts .few-users)
@@ -71,26 +84,41 @@ mul-if4 c = omega (arith, known (c .before .before .before .before .before) .bou
 mul-if4-2 : tie.Need-mul-if4-2
 mul-if4-2 c =
     let a = c .before .before .before .before .before .before .before .before .before .before .before .args in
-    omega (arith, mul-le-mul {n₁ = usersOf (a .plan)} {m₁ = a .length} {n₂ = 16} {m₂ = 64} (known (c .before .before .before .before .before) .bounds .counts .few-users) (short (c .before .before .before)))
+    omega (
+      arith,
+      mul-le-mul {n₁ = usersOf (a .plan)} {m₁ = a .length} {n₂ = 16} {m₂ = 64}
+          (known (c .before .before .before .before .before) .bounds .counts .few-users) (short (c .before .before .before)),
+    )
 
 returns-3 : tie.Need-returns-3
 unfolding blocks
 returns-3 c =
     let s = c .before .before .before .before .before .before .before .before .before .before in
     decide (c .before .before .before .before)
-    (⊎-elim (λ w. simp (fits (c .before .before), ne-eqb _ _ (w .taken))) (λ w. simp (fits (c .before .before), eq-eqb _ _ (w .0 .left), not-true (wholeKeys s) (w .2 .taken))) (c .if3 .came))
+    (⊎-elim (λ w. simp (fits (c .before .before), ne-eqb _ _ (w .taken)))
+    (λ w. simp (fits (c .before .before), eq-eqb _ _ (w .0 .left), not-true (wholeKeys s) (w .2 .taken))) (c .if3 .came))
 
 returns-4 : tie.Need-returns-4
 unfolding blocks
 returns-4 c =
     decide (c .before .before .before .before .before .before .before .before)
-    (simp (fits (c .before .before .before .before .before .before), whole (c .before .before), sym (c .before .all-below .ensures) ∙ not-true _ (c .if5 .taken)))
+    (simp (
+      fits (c .before .before .before .before .before .before),
+      whole (c .before .before),
+      sym (c .before .all-below .ensures) ∙ not-true _
+          (c .if5 .taken),
+    ))
 
 returns-5 : tie.Need-returns-5
 unfolding blocks
 returns-5 c =
     decide (c .before .before .before .before .before .before .before .before)
-    (simp (fits (c .before .before .before .before .before .before), whole (c .before .before), sym (c .before .all-below .ensures) ∙ not-false _ (c .if5 .left)))
+    (simp (
+      fits (c .before .before .before .before .before .before),
+      whole (c .before .before),
+      sym (c .before .all-below .ensures) ∙ not-false _
+          (c .if5 .left),
+    ))
 
 pub check-keys-spec : {M : Type 1} → statement M
 check-keys-spec =

@@ -25,8 +25,11 @@ returns : tie.Need-returns
 returns c =
     let s = c .before .before .before .before .before .before .before .before .before .before .before in
     let t = c .before .before .before .before in
-    let checked = t .before .before .check-keys in
-    (checked .ensures, c .before .before .write-keys .ensures ∙ takes (checked .result) (checked .ensures) (t .before .is-accepted .ensures) _ (s .args .keys .now) (t .if1 .taken))
+    let checked = t .before .before .check-keys in (
+      checked .ensures,
+      c .before .before .write-keys .ensures ∙ takes (checked .result) (checked .ensures) (t .before .is-accepted .ensures) _
+          (s .args .keys .now) (t .if1 .taken),
+    )
 
 returns-2 : tie.Need-returns-2
 returns-2 c =

@@ -22,8 +22,11 @@ loop-again : tie.Need-loop-again Inv-loop μ-loop
 loop-again c =
     let s = c .before .before .before .before .loop in
     let a = c .before .before .before .before .before .before .before .args in
-    let f : ℕ → ℕ = λ j. at (a .row .now) j * at (a .symbols .now) j in
-    (omega arith, c .mul-add-mod .ensures ∙ kept-next (a .q) f (s .k) (s .sum) _ (c .before .before .before .before .before .before .before .pre .0) (s .inv .1) refl)
+    let f : ℕ → ℕ = λ j. at (a .row .now) j * at (a .symbols .now) j in (
+      omega arith,
+      c .mul-add-mod .ensures ∙ kept-next (a .q) f (s .k) (s .sum) _ (c .before .before .before .before .before .before .before .pre .0)
+          (s .inv .1) refl,
+    )
 
 returns : tie.Need-returns Inv-loop μ-loop
 returns c =

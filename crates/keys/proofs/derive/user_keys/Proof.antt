@@ -27,11 +27,13 @@ loop-holds : tie.Need-loop-holds Inv-loop μ-loop
 loop-holds c = filling-none _ _ 0 refl
 
 -- the position's symbols lie in the source key
-fits : (c : tie.In-loop Inv-loop μ-loop) → (let a = c .before .before .before .before .before .args in c .before .loop .p * length (a .row .now) + length (a .row .now) ≤ length (a .source .now))
+fits : (c : tie.In-loop Inv-loop μ-loop) → (let a = c .before .before .before .before .before .args in c .before .loop .p * length (a .row .now) + length
+    (a .row .now) ≤ length (a .source .now))
 fits c =
     let s = c .before .loop in
     let a = c .before .before .before .before .before .args in
-    row-fits (length (a .keys .now)) (length (a .row .now)) (s .p) (length (a .source .now)) (omega (arith, c .loop-test .taken, s .inv .whole)) (c .before .before .before .before .before .pre .1)
+    row-fits (length (a .keys .now)) (length (a .row .now)) (s .p) (length (a .source .now)) (omega (arith, c .loop-test .taken, s .inv .whole))
+    (c .before .before .before .before .before .pre .1)
 
 mul-a : tie.Need-mul-a Inv-loop μ-loop
 mul-a c = omega (arith, fits c)
@@ -55,8 +57,11 @@ key-symbol-requires : tie.Need-key-symbol-requires Inv-loop μ-loop
 key-symbol-requires c κs =
     let s = c .before .before .loop in
     let a = c .before .before .before .before .before .before .args in
-    let b : ℕ = s .p * length (a .row .now) in
-    (c .before .before .before .before .before .before .pre .0, sym (length-part (b + length (a .row .now) - b) b (a .source .now) (omega (arith, fits (c .before))) ∙ add-sub-cancel-left _ _))
+    let b : ℕ = s .p * length (a .row .now) in (
+      c .before .before .before .before .before .before .pre .0,
+      sym
+          (length-part (b + length (a .row .now) - b) b (a .source .now) (omega (arith, fits (c .before))) ∙ add-sub-cancel-left _ _),
+    )
 
 loop-less : tie.Need-loop-less Inv-loop μ-loop
 loop-less c = let s = c .before .before .before .loop in filling-less (s .keys) (s .p) (c .key-symbol .result) (c .before .before .loop-test .taken)
@@ -68,7 +73,8 @@ loop-again c =
     let b : ℕ = s .p * length (a .row .now) in
     filling-next (products (a .q) (a .row .now) (a .source .now)) _ (s .keys) (s .p) (c .key-symbol .result) (s .inv) (c .before .before .loop-test .taken)
     (c .key-symbol .ensures
-    ∙ ap (λ (t : ℕ). t % a .q) (sum-cong (length (a .row .now)) _ _ (λ k l. ap (λ (x : ℕ). at (a .row .now) k * x) (part-at (b + length (a .row .now) - b) b (a .source .now) k (omega arith)))))
+    ∙ ap (λ (t : ℕ). t % a .q) (sum-cong (length (a .row .now)) _ _
+    (λ k l. ap (λ (x : ℕ). at (a .row .now) k * x) (part-at (b + length (a .row .now) - b) b (a .source .now) k (omega arith)))))
 
 same-length : tie.Need-same-length Inv-loop μ-loop
 same-length c = c .before .loop .inv .whole

@@ -22,19 +22,26 @@ mul-users c = omega (arith, c .before .before .before .before .pre .1)
 loop-holds : tie.Need-loop-holds Inv-loop μ-loop
 loop-holds c =
     let s = c .before .before .before .before in
-    let a = s .args in
-    (omega arith, front-none _ _ (0 * a .positions) (omega arith) (length-keys (a .plan .q) (usersOf (a .plan)) (a .plan .rate) (a .positions) (a .table .now) (a .source .now) ∙ sym (s .pre .4)))
+    let a = s .args in (
+      omega arith,
+      front-none _ _ (0 * a .positions) (omega arith)
+          (length-keys (a .plan .q) (usersOf (a .plan)) (a .plan .rate) (a .positions) (a .table .now) (a .source .now) ∙ sym (s .pre .4)),
+    )
 
 -- the user's row lies in the table, and its keys in the lent list
-row-in : (c : tie.In-loop Inv-loop μ-loop) → (let a = c .before .before .before .before .before .before .args in c .before .loop .i * a .plan .rate + a .plan .rate ≤ length (a .table .now))
+row-in : (c : tie.In-loop Inv-loop μ-loop) → (let a = c .before .before .before .before .before .before .args in c .before .loop .i * a .plan .rate
+    + a .plan .rate ≤ length (a .table .now))
 row-in c =
     let a = c .before .before .before .before .before .before .args in
-    row-fits (usersOf (a .plan)) (a .plan .rate) (c .before .loop .i) (length (a .table .now)) (c .loop-test .taken) (c .before .before .before .before .before .before .pre .2)
+    row-fits (usersOf (a .plan)) (a .plan .rate) (c .before .loop .i) (length (a .table .now)) (c .loop-test .taken)
+    (c .before .before .before .before .before .before .pre .2)
 
-keys-in : (c : tie.In-loop Inv-loop μ-loop) → (let a = c .before .before .before .before .before .before .args in c .before .loop .i * a .positions + a .positions ≤ length (c .before .loop .keys))
+keys-in : (c : tie.In-loop Inv-loop μ-loop) → (let a = c .before .before .before .before .before .before .args in c .before .loop .i * a .positions
+    + a .positions ≤ length (c .before .loop .keys))
 keys-in c =
     let a = c .before .before .before .before .before .before .args in
-    row-fits (usersOf (a .plan)) (a .positions) (c .before .loop .i) (length (c .before .loop .keys)) (c .loop-test .taken) (c .before .loop .inv .1 .whole ∙ c .before .before .before .before .before .before .pre .4)
+    row-fits (usersOf (a .plan)) (a .positions) (c .before .loop .i) (length (c .before .loop .keys)) (c .loop-test .taken)
+    (c .before .loop .inv .1 .whole ∙ c .before .before .before .before .before .before .pre .4)
 
 mul-b : tie.Need-mul-b Inv-loop μ-loop
 mul-b c = omega (arith, row-in c)
@@ -79,12 +86,18 @@ user-keys-requires c κs =
     let a = S .args in
     let b : ℕ = s .i * a .positions in
     let r : ℕ = s .i * a .plan .rate in
-    let lent : length (take (b + a .positions - b) (drop b (s .keys))) ≡ a .positions = length-part (b + a .positions - b) b (s .keys) (omega (arith, keys-in (c .before .before))) ∙ add-sub-cancel-left _ _ in
-    let row : length (take (r + a .plan .rate - r) (drop r (a .table .now))) ≡ a .plan .rate = length-part (r + a .plan .rate - r) r (a .table .now) (omega (arith, row-in (c .before .before))) ∙ add-sub-cancel-left _ _ in
+    let lent : length (take (b + a .positions - b) (drop b (s .keys))) ≡ a .positions = length-part (b + a .positions - b) b (s .keys)
+    (omega (arith, keys-in (c .before .before))) ∙ add-sub-cancel-left _ _ in
+    let row : length (take (r + a .plan .rate - r) (drop r (a .table .now))) ≡ a .plan .rate = length-part (r + a .plan .rate - r) r (a .table .now)
+    (omega (arith, row-in (c .before .before))) ∙ add-sub-cancel-left _ _ in
     (S .pre .0, S .pre .3 ∙ sym (ap₂ _*_ lent row))
 
 add-i : tie.Need-add-i Inv-loop μ-loop
-add-i c = omega (arith, c .before .before .before .before .before .loop-test .taken, c .before .before .before .before .before .before .before .before .before .before .before .pre .1)
+add-i c = omega (
+  arith,
+  c .before .before .before .before .before .loop-test .taken,
+  c .before .before .before .before .before .before .before .before .before .before .before .pre .1,
+)
 
 loop-less : tie.Need-loop-less Inv-loop μ-loop
 loop-less c = omega (arith, c .before .before .before .before .before .loop-test .taken)
@@ -98,8 +111,11 @@ loop-again c =
     let r : ℕ = s .i * a .plan .rate in
     let v : ℕ = b + a .positions - b in (
       omega (arith, h),
-      front-part _ _ (s .keys) b v ((s .i + 1) * a .positions) (c .before .before .user-keys .last .1 .1 .1 .0) (omega arith) (s .inv .1) (omega (arith, keys-in (c .before .before .before .before .before)))
-          (c .before .before .user-keys .ensures ∙ keys-of-row (a .plan .q) (usersOf (a .plan)) (a .plan .rate) (a .positions) (a .table .now) (a .source .now) (s .keys) (s .i) (r + a .plan .rate - r) v (add-sub-cancel-left _ _) (add-sub-cancel-left _ _) h (row-in (c .before .before .before .before .before)) (keys-in (c .before .before .before .before .before))),
+      front-part _ _ (s .keys) b v ((s .i + 1) * a .positions) (c .before .before .user-keys .last .1 .1 .1 .0) (omega arith) (s .inv .1)
+          (omega (arith, keys-in (c .before .before .before .before .before)))
+          (c .before .before .user-keys .ensures ∙ keys-of-row (a .plan .q) (usersOf (a .plan)) (a .plan .rate) (a .positions) (a .table .now) (a .source .now)
+          (s .keys) (s .i) (r + a .plan .rate - r) v (add-sub-cancel-left _ _) (add-sub-cancel-left _ _) h (row-in (c .before .before .before .before .before))
+          (keys-in (c .before .before .before .before .before))),
     )
 
 same-length : tie.Need-same-length Inv-loop μ-loop

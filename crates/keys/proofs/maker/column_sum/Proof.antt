@@ -25,12 +25,23 @@ loop-holds c =
 inside : (c : tie.In-loop Inv-loop μ-loop) → (let a = c .before .before .before .args in c .before .loop .i * a .cols + a .cols ≤ length (a .table .now))
 inside c =
     let d = c .before .before .before in
-    omega (arith, d .pre .2, mul-le-mul {n₁ = c .before .loop .i + 1} {m₁ = d .args .cols} {n₂ = d .args .rows} {m₂ = d .args .cols} (omega (arith, c .loop-test .taken)) (omega arith))
+    omega (
+      arith,
+      d .pre .2,
+      mul-le-mul {n₁ = c .before .loop .i + 1} {m₁ = d .args .cols} {n₂ = d .args .rows} {m₂ = d .args .cols}
+          (omega (arith, c .loop-test .taken)) (omega arith),
+    )
 
 few : (c : tie.In-loop Inv-loop μ-loop) → (let a = c .before .before .before .args in c .before .loop .i + 1 ≤ length (a .table .now))
 few c =
     let d = c .before .before .before in
-    omega (arith, inside c, mul-le-mul {n₁ = c .before .loop .i} {m₁ = 1} {n₂ = c .before .loop .i} {m₂ = d .args .cols} (omega arith) (omega (arith, d .pre .1)), d .pre .1)
+    omega (
+      arith,
+      inside c,
+      mul-le-mul {n₁ = c .before .loop .i} {m₁ = 1} {n₂ = c .before .loop .i} {m₂ = d .args .cols} (omega arith)
+          (omega (arith, d .pre .1)),
+      d .pre .1,
+    )
 
 mul-add-mod : tie.Need-mul-add-mod Inv-loop μ-loop
 mul-add-mod c = omega (arith, inside c)

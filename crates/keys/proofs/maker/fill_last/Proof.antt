@@ -29,13 +29,28 @@ column-sum-requires c κs =
     (S .pre .0, c .before .loop-test .taken, omega (arith, c .before .before .loop .inv .1 .whole, S .pre .1))
 
 add-table : tie.Need-add-table Inv-loop μ-loop
-add-table c = omega (arith, c .before .before .before .loop-test .taken, c .before .before .before .before .loop .inv .1 .whole, c .before .before .before .before .before .before .pre .1)
+add-table c = omega (
+  arith,
+  c .before .before .before .loop-test .taken,
+  c .before .before .before .before .loop .inv .1 .whole,
+  c .before .before .before .before .before .before .pre .1,
+)
 
 mul-table : tie.Need-mul-table Inv-loop μ-loop
-mul-table c = omega (arith, c .before .before .before .loop-test .taken, c .before .before .before .before .loop .inv .1 .whole, c .before .before .before .before .before .before .pre .1)
+mul-table c = omega (
+  arith,
+  c .before .before .before .loop-test .taken,
+  c .before .before .before .before .loop .inv .1 .whole,
+  c .before .before .before .before .before .before .pre .1,
+)
 
 slice-write-table : tie.Need-slice-write-table Inv-loop μ-loop
-slice-write-table c = omega (arith, c .before .before .before .loop-test .taken, c .before .before .before .before .loop .inv .1 .whole, c .before .before .before .before .before .before .pre .1)
+slice-write-table c = omega (
+  arith,
+  c .before .before .before .loop-test .taken,
+  c .before .before .before .before .loop .inv .1 .whole,
+  c .before .before .before .before .before .before .pre .1,
+)
 
 add-k : tie.Need-add-k Inv-loop μ-loop
 add-k c = omega (arith, c .before .before .before .loop-test .taken)
@@ -51,10 +66,12 @@ loop-again c =
     let h = c .before .before .before .loop-test .taken in
     let x : ℕ = a .rows * a .cols + s .k in (
       omega (arith, h),
-      subst (λ (n : ℕ). Front (a .table .now) (withLast (a .q) (a .rows) (a .cols) (a .table .now)) (set (s .table) x (c .opposite-mod .result)) n) {x = x + 1} {y = a .rows * a .cols + (s .k + 1)} (omega arith)
+      subst (λ (n : ℕ). Front (a .table .now) (withLast (a .q) (a .rows) (a .cols) (a .table .now)) (set (s .table) x (c .opposite-mod .result)) n) {x = x + 1}
+          {y = a .rows * a .cols + (s .k + 1)} (omega arith)
           (front-next _ _ (s .table) x (c .opposite-mod .result) (s .inv .1) (omega (arith, h, s .inv .1 .whole, S .pre .1))
           (c .opposite-mod .ensures
-          ∙ ap (oppositeOf (a .q)) (c .before .column-sum .ensures ∙ ap (λ (n : ℕ). n % a .q) (column-stays (a .q) (a .rows) (a .cols) (a .table .now) (S .pre .1) (s .table) (s .k) (s .k) (s .inv .1) h))
+          ∙ ap (oppositeOf (a .q)) (c .before .column-sum .ensures ∙ ap (λ (n : ℕ). n % a .q)
+          (column-stays (a .q) (a .rows) (a .cols) (a .table .now) (S .pre .1) (s .table) (s .k) (s .k) (s .inv .1) h))
           ∙ sym (last-at (a .q) (a .rows) (a .cols) (a .table .now) (S .pre .1) (s .k) h))),
     )
 

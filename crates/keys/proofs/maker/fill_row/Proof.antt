@@ -21,7 +21,8 @@ loop-less : tie.Need-loop-less Inv-loop μ-loop
 loop-less c = let s = c .before .before .loop in filling-less (s .row) (s .k) (c .power-mod .result) (c .before .loop-test .taken)
 
 loop-again : tie.Need-loop-again Inv-loop μ-loop
-loop-again c = let s = c .before .before .loop in filling-next _ _ (s .row) (s .k) (c .power-mod .result) (s .inv) (c .before .loop-test .taken) (c .power-mod .ensures)
+loop-again c = let s = c .before .before .loop in filling-next _ _ (s .row) (s .k) (c .power-mod .result) (s .inv) (c .before .loop-test .taken)
+    (c .power-mod .ensures)
 
 same-length : tie.Need-same-length Inv-loop μ-loop
 same-length c = c .before .loop .inv .whole

@@ -22,7 +22,8 @@ loop-holds c = (omega arith, front-none _ _ (0 * c .before .args .cols) (omega a
 fits : (c : tie.In-loop Inv-loop μ-loop) → (let a = c .before .before .before .args in c .before .loop .i * a .cols + a .cols ≤ length (c .before .loop .table))
 fits c =
     let a = c .before .before .before .args in
-    row-fits (a .rows) (a .cols) (c .before .loop .i) (length (c .before .loop .table)) (c .loop-test .taken) (c .before .loop .inv .1 .whole ∙ c .before .before .before .pre .3)
+    row-fits (a .rows) (a .cols) (c .before .loop .i) (length (c .before .loop .table)) (c .loop-test .taken)
+    (c .before .loop .inv .1 .whole ∙ c .before .before .before .pre .3)
 
 mul-b : tie.Need-mul-b Inv-loop μ-loop
 mul-b c = omega (arith, fits c)
@@ -69,7 +70,9 @@ loop-again c =
     let w : ℕ = b + a .cols - b in (
       omega (arith, h),
       front-part _ _ (s .table) b w ((s .i + 1) * a .cols) (c .before .before .fill-row .last .1 .1 .0) (omega arith) (s .inv .1) (omega (arith, k))
-          (c .before .before .fill-row .ensures ∙ powers-part (a .q) (a .generator) (a .rows) (a .cols) (s .table) (s .i) w (c .before .before .before .before .row-base .result) (omega arith) (S .pre .0) h k (omega (arith, k, s .inv .1 .whole, S .pre .3)) (c .before .before .before .before .row-base .ensures)),
+          (c .before .before .fill-row .ensures ∙ powers-part (a .q) (a .generator) (a .rows) (a .cols) (s .table) (s .i) w
+          (c .before .before .before .before .row-base .result) (omega arith) (S .pre .0) h k (omega (arith, k, s .inv .1 .whole, S .pre .3))
+          (c .before .before .before .before .row-base .ensures)),
     )
 
 same-length : tie.Need-same-length Inv-loop μ-loop

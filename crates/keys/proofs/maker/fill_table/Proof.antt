@@ -48,8 +48,13 @@ slice-aggregate-fill-rows c =
 
 fill-rows-requires : tie.Need-fill-rows-requires
 fill-rows-requires c κs =
-    let s = c .before .before .before in
-    (prime s .two, omega (arith, known s .counts .few-users), known s .few-symbols, length-take-le ((usersOf (s .args .plan) - 1) * s .args .plan .rate) (s .args .table .now) (omega (arith, others s)))
+    let s = c .before .before .before in (
+      prime s .two,
+      omega (arith, known s .counts .few-users),
+      known s .few-symbols,
+      length-take-le ((usersOf (s .args .plan) - 1) * s .args .plan .rate)
+          (s .args .table .now) (omega (arith, others s)),
+    )
 
 fill-last-requires : tie.Need-fill-last-requires
 fill-last-requires c κs =
@@ -57,7 +62,8 @@ fill-last-requires c κs =
     let a = s .args in
     let m : ℕ = (usersOf (a .plan) - 1) * a .plan .rate in
     let y : List ℕ = c .before .before .before .fill-rows .last .1 .1 .1 .1 .0 in
-    let size : length y ≡ m = powers-size (a .plan .q) (a .generator) (usersOf (a .plan)) (a .plan .rate) y [] (some-users (known s .counts)) (known s .some-symbols) (c .before .before .before .fill-rows .ensures) in
+    let size : length y ≡ m = powers-size (a .plan .q) (a .generator) (usersOf (a .plan)) (a .plan .rate) y [] (some-users (known s .counts))
+    (known s .some-symbols) (c .before .before .before .fill-rows .ensures) in
     (prime-pos (prime s), length-front (a .table .now) y m (size ∙ sym (length-take-le m (a .table .now) (omega (arith, others s)))) ∙ omega (arith, others s))
 
 returns : tie.Need-returns
@@ -65,7 +71,8 @@ returns c =
     let s = c .before .before .before .before .before .before .before .before .before .before in
     let a = s .args in
     c .before .before .fill-last .ensures
-    ∙ last-makes (a .plan .q) (a .generator) (usersOf (a .plan)) (a .plan .rate) _ _ (some-users (known s .counts)) (known s .some-symbols) (c .before .before .before .before .before .before .fill-rows .ensures)
+    ∙ last-makes (a .plan .q) (a .generator) (usersOf (a .plan)) (a .plan .rate) _ _ (some-users (known s .counts)) (known s .some-symbols)
+    (c .before .before .before .before .before .before .fill-rows .ensures)
     ∙ made-is (a .plan) (a .generator) (known s) (prime s) (s .pre .2)
 
 pub fill-table-spec : {M : Type 1} → statement M

@@ -14,7 +14,7 @@ use Rattle.plans.specs.declared.Plan.{Plan}
 use Rattle.plans.specs.declared.Planned.{Planned}
 use Rattle.plans.specs.Plans.{noPlan, usersOf, inBounds, plannedCode, plannedPlan}
 use Rattle.vetting.specs.Walk.{pairs}
-use Rattle.vetting.specs.Verdict.{leakCheck}
+use Rattle.vetting.specs.Vet.{leakCheck}
 use Rattle.keys.specs.Maker.{rateOf, planOf, madeTable, makerCode}
 use Rattle.keys.proofs.MakerLaws.{made-bounds, ownChecks}
 use Rattle.keys.proofs.maker.make_table.Statement.{statement}
@@ -46,14 +46,17 @@ plan-is c =
     ∙ ap (λ (p : Planned). ifAccepted (plannedCode p) (planned s) noPlan) (c .planned .given .1)
 
 passed : (c : tie.After-planned) → NoneHolds (own (c .before .before .before .before .before))
-passed c = none-holds (own (c .before .before .before .before .before)) tt (sym (ap plannedCode (c .planned .given .1)) ∙ c .before .before .plan-for .ensures .0)
+passed c = none-holds (own (c .before .before .before .before .before)) tt
+    (sym (ap plannedCode (c .planned .given .1)) ∙ c .before .before .plan-for .ensures .0)
 
 write-table-requires : tie.Need-write-table-requires
 write-table-requires c κs =
     let a = c .before .before .before .before .before .before .before .args in
     let n = passed (c .before .before) in
-    subst (λ (P : Plan). (inBounds P ≡ true) × (isPrime (P .q) ≡ true) × (P .rate ≡ rateOf (P .clusters) (P .size) (P .limit)) × (length (a .table .now) ≡ usersOf P * P .rate)) (sym (plan-is (c .before .before))) (
-      made-bounds (a .clusters) (a .size) (a .limit) (a .q) (not-false _ (n .0)) (omega (arith, leb-false ((a .clusters - 1) * a .size) (a .limit) (n .1 .1 .1 .0))),
+    subst (λ (P : Plan). (inBounds P ≡ true) × (isPrime (P .q) ≡ true) × (P .rate ≡ rateOf (P .clusters) (P .size) (P .limit))
+    × (length (a .table .now) ≡ usersOf P * P .rate)) (sym (plan-is (c .before .before))) (
+      made-bounds (a .clusters) (a .size) (a .limit) (a .q) (not-false _ (n .0))
+          (omega (arith, leb-false ((a .clusters - 1) * a .size) (a .limit) (n .1 .1 .1 .0))),
       not-false _ (n .1 .0),
       refl,
       eqb-true _ _ (not-false _ (n .1 .1 .1 .1 .0)),
@@ -68,12 +71,14 @@ found c =
     ∙ ap (λ (P : Plan). firstOf (walk (s .args .generator) P)) (plan-is p)
     ∙ sym (none-decide (own s) (walk (s .args .generator) (planned s)) (passed p))
 
-left : (c : tie.After-write-table) → (let s = c .before .before .before .before .before .before .before .before in c .write-table .last .1 .1 .0 ≡ ifAccepted (code s) (made s) (s .args .table .now))
+left : (c : tie.After-write-table) → (let s = c .before .before .before .before .before .before .before .before in c .write-table .last .1 .1 .0 ≡ ifAccepted
+    (code s) (made s) (s .args .table .now))
 left c =
     let p = c .before .before .before in
     let s = p .before .before .before .before .before in
     c .write-table .ensures .1
-    ∙ ap (λ (P : Plan). ifAccepted (verdictCode (c .write-table .result)) (madeTable (P .clusters) (P .size) (P .limit) (P .q) (s .args .generator)) (s .args .table .now)) (plan-is p)
+    ∙ ap (λ (P : Plan). ifAccepted (verdictCode (c .write-table .result)) (madeTable (P .clusters) (P .size) (P .limit) (P .q) (s .args .generator))
+    (s .args .table .now)) (plan-is p)
     ∙ ap (λ (d : Code). ifAccepted d (made s) (s .args .table .now)) (found c)
 
 returns : tie.Need-returns
@@ -97,7 +102,8 @@ returns-3 c =
     let s = c .before .before .before .before .before in
     let r = c .enum-told2 .given .0 .0 in
     let told = c .enum-told2 .given .1 in
-    let e : codeOf r ≡ code s = first-refuses (own s) (walk (s .args .generator) (planned s)) r (sym (ap plannedCode told) ∙ c .before .before .plan-for .ensures .0) in (
+    let e : codeOf r ≡ code s = first-refuses (own s) (walk (s .args .generator) (planned s)) r
+    (sym (ap plannedCode told) ∙ c .before .before .plan-for .ensures .0) in (
       ap plannedCode told ∙ e,
       ap plannedPlan told ∙ sym (refused-keeps (code s) (planned s) noPlan r e),
       sym (refused-keeps (code s) (made s) (s .args .table .now) r e),

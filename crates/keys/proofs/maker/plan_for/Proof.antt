@@ -44,8 +44,16 @@ mul-if4 c =
 
 returns-4 : tie.Need-returns-4
 returns-4 c =
-    let a = c .before .before .before .before .before .before .before .args in
-    (rw (counts (c .before .before .before .before), prime (c .before .before), lt-ltb _ _ (c .before .if3 .left), le-leb ((a .clusters - 1) * a .size) (a .limit) (omega (arith, c .if4 .taken))), refl)
+    let a = c .before .before .before .before .before .before .before .args in (
+      rw (
+        counts (c .before .before .before .before),
+        prime (c .before .before),
+        lt-ltb _ _ (c .before .if3 .left),
+        le-leb ((a .clusters - 1) * a .size)
+            (a .limit) (omega (arith, c .if4 .taken)),
+      ),
+      refl,
+    )
 
 below : (c : tie.Else4) → (let a = c .before .before .before .before .before .before .before .args in leb ((a .clusters - 1) * a .size) (a .limit) ≡ false)
 below c =
@@ -65,23 +73,50 @@ within : (c : tie.After-rate-of) → inBounds (planned (c .before .before .befor
 within c =
     let s = c .before .before .before .before .before .before .before .before in
     ap (λ (R : ℕ). inBounds (planned s R)) (c .rate-of .ensures)
-    ∙ made-bounds (s .args .clusters) (s .args .size) (s .args .limit) (s .args .q) (counts (c .before .before .before .before .before)) (omega (arith, c .before .if4 .left))
+    ∙ made-bounds (s .args .clusters) (s .args .size) (s .args .limit) (s .args .q) (counts (c .before .before .before .before .before))
+    (omega (arith, c .before .if4 .left))
 
 mul-if5 : tie.Need-mul-if5
 mul-if5 c = omega (arith, known (c .before .before .before .before .before) .few-users)
 
 mul-if5-2 : tie.Need-mul-if5-2
-mul-if5-2 c = omega (arith, few-numbers (bounds-known (planned (c .before .before .before .before .before .before .before .before) (c .rate-of .result)) (within c)))
+mul-if5-2 c = omega (
+  arith,
+  few-numbers (bounds-known (planned (c .before .before .before .before .before .before .before .before) (c .rate-of .result))
+      (within c)),
+)
 
 -- how many symbols the rate that was found asks
-asked : (c : tie.After-rate-of) → (let a = c .before .before .before .before .before .before .before .before .args in a .clusters * a .size * c .rate-of .result ≡ a .clusters * a .size * rateOf (a .clusters) (a .size) (a .limit))
+asked : (c : tie.After-rate-of) → (let a = c .before .before .before .before .before .before .before .before .args in a .clusters * a .size * c .rate-of .result
+    ≡ a .clusters * a .size * rateOf (a .clusters) (a .size) (a .limit))
 asked c = let a = c .before .before .before .before .before .before .before .before .args in ap (λ (R : ℕ). a .clusters * a .size * R) (c .rate-of .ensures)
 
 returns-5 : tie.Need-returns-5
-returns-5 c = (rw (counts (c .before .before .before .before .before .before), prime (c .before .before .before .before), lt-ltb _ _ (c .before .before .before .if3 .left), below (c .before .before), ne-eqb _ _ (λ e. c .if5 .taken (e ∙ sym (asked (c .before))))), refl)
+returns-5 c = (
+  rw (
+    counts (c .before .before .before .before .before .before),
+    prime (c .before .before .before .before),
+    lt-ltb _ _
+        (c .before .before .before .if3 .left),
+    below (c .before .before),
+    ne-eqb _ _ (λ e. c .if5 .taken (e ∙ sym (asked (c .before)))),
+  ),
+  refl,
+)
 
 returns-6 : tie.Need-returns-6
-returns-6 c = (rw (counts (c .before .before .before .before .before .before), prime (c .before .before .before .before), lt-ltb _ _ (c .before .before .before .if3 .left), below (c .before .before), eq-eqb _ _ (c .if5 .left ∙ asked (c .before))), ap (planned (c .before .before .before .before .before .before .before .before .before)) (c .before .rate-of .ensures))
+returns-6 c = (
+  rw (
+    counts (c .before .before .before .before .before .before),
+    prime (c .before .before .before .before),
+    lt-ltb _ _
+        (c .before .before .before .if3 .left),
+    below (c .before .before),
+    eq-eqb _ _ (c .if5 .left ∙ asked (c .before)),
+  ),
+  ap
+      (planned (c .before .before .before .before .before .before .before .before .before)) (c .before .rate-of .ensures),
+)
 
 pub plan-for-spec : {M : Type 1} → statement M
 plan-for-spec =

@@ -10,7 +10,7 @@ use Rattle.refusals.specs.Codes.{verdictCode, firstOf}
 use Rattle.refusals.proofs.CodeLaws.{new-taken, old-kept}
 use Rattle.residues.proofs.PrimeLaws.{true-prime}
 use Rattle.vetting.specs.Walk.{pairs}
-use Rattle.vetting.specs.Verdict.{leakCheck, verdict}
+use Rattle.vetting.specs.Vet.{leakCheck, vetCode}
 use Rattle.keys.specs.Maker.{madeTable}
 use Rattle.plans.proofs.PlanBounds.{bounds-known}
 use Rattle.keys.proofs.MakerLaws.{made-verdict}
@@ -34,7 +34,7 @@ found c =
     let s = c .before .before .before .before .before .before .before .before in
     let P = s .args .plan in
     c .vet .ensures
-    ∙ ap (verdict P) (c .before .before .before .before .fill-table .ensures)
+    ∙ ap (vetCode P) (c .before .before .before .before .fill-table .ensures)
     ∙ made-verdict P (s .args .generator) (bounds-known P (s .pre .0)) (true-prime (P .q) (s .pre .1)) (s .pre .2) (s .pre .0)
 
 returns-2 : tie.Need-returns-2

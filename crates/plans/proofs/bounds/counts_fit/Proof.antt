@@ -15,10 +15,20 @@ returns-3 : tie.Need-returns-3
 returns-3 c = simp (le-leb _ _ (c .before .before .if1 .left), le-leb _ _ (c .before .if2 .left), lt-leb _ _ (c .if3 .taken))
 
 returns-4 : tie.Need-returns-4
-returns-4 c = simp (le-leb _ _ (c .before .before .before .if1 .left), le-leb _ _ (c .before .before .if2 .left), le-leb _ _ (c .before .if3 .left), lt-leb _ _ (c .if4 .taken))
+returns-4 c = simp (
+  le-leb _ _ (c .before .before .before .if1 .left),
+  le-leb _ _ (c .before .before .if2 .left),
+  le-leb _ _ (c .before .if3 .left),
+  lt-leb _ _
+      (c .if4 .taken),
+)
 
 mul-users : tie.Need-mul-users
-mul-users c = omega (arith, mul-le-mul {n₁ = c .before .before .before .before .args .clusters} {m₁ = c .before .before .before .before .args .size} {n₂ = 8} {m₂ = 8} (c .before .before .if2 .left) (c .if4 .left))
+mul-users c = omega (
+  arith,
+  mul-le-mul {n₁ = c .before .before .before .before .args .clusters} {m₁ = c .before .before .before .before .args .size} {n₂ = 8}
+      {m₂ = 8} (c .before .before .if2 .left) (c .if4 .left),
+)
 
 returns-5 : tie.Need-returns-5
 returns-5 c =

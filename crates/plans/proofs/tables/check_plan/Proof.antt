@@ -27,13 +27,32 @@ returns-2 : tie.Need-returns-2
 returns-2 c = simp (inside (c .before .before .before), ne-eqb _ _ (c .if2 .taken))
 
 returns-3 : tie.Need-returns-3
-returns-3 c = simp (inside (c .before .before .before .before .before), eq-eqb _ _ (c .before .before .if2 .left), sym (c .before .is-prime .ensures) ∙ not-true _ (c .if3 .taken))
+returns-3 c = simp (
+  inside (c .before .before .before .before .before),
+  eq-eqb _ _ (c .before .before .if2 .left),
+  sym (c .before .is-prime .ensures)
+      ∙ not-true _ (c .if3 .taken),
+)
 
 returns-4 : tie.Need-returns-4
-returns-4 c = simp (inside (c .before .before .before .before .before .before .before), eq-eqb _ _ (c .before .before .before .before .if2 .left), sym (c .before .before .before .is-prime .ensures) ∙ not-false _ (c .before .before .if3 .left), sym (c .before .all-below .ensures) ∙ not-true _ (c .if4 .taken))
+returns-4 c = simp (
+  inside (c .before .before .before .before .before .before .before),
+  eq-eqb _ _ (c .before .before .before .before .if2 .left),
+  sym
+      (c .before .before .before .is-prime .ensures) ∙ not-false _ (c .before .before .if3 .left),
+  sym (c .before .all-below .ensures) ∙ not-true _
+      (c .if4 .taken),
+)
 
 returns-5 : tie.Need-returns-5
-returns-5 c = simp (inside (c .before .before .before .before .before .before .before), eq-eqb _ _ (c .before .before .before .before .if2 .left), sym (c .before .before .before .is-prime .ensures) ∙ not-false _ (c .before .before .if3 .left), sym (c .before .all-below .ensures) ∙ not-false _ (c .if4 .left))
+returns-5 c = simp (
+  inside (c .before .before .before .before .before .before .before),
+  eq-eqb _ _ (c .before .before .before .before .if2 .left),
+  sym
+      (c .before .before .before .is-prime .ensures) ∙ not-false _ (c .before .before .if3 .left),
+  sym (c .before .all-below .ensures) ∙ not-false _
+      (c .if4 .left),
+)
 
 pub check-plan-spec : {M : Type 1} → statement M
 check-plan-spec =

@@ -27,9 +27,14 @@ loop-again c =
     let a = c .before .before .before .before .before .before .before .before .before .args in
     let f : ℕ → ℕ = λ k. low (residueOf (a .q) (drawnOf (a .x) k)) in
     let number : c .before .before .before .before .drawn .result ≡ drawnOf (a .x) (s .i) = c .before .before .before .before .drawn .ensures in
-    let value : c .before .before .before .residue .result ≡ residueOf (a .q) (drawnOf (a .x) (s .i)) = c .before .before .before .residue .ensures ∙ ap (residueOf (a .q)) number in
-    let list : s .t ≡ overwritten (s .i) f (a .t .now) = s .inv .2 in
-    (omega arith, refl, c .before .before .put .ensures ∙ ap₂ (λ (l : List ℕ) (v : ℕ). replaced l (s .i) (low v)) list value ∙ sym (written-next f (a .t .now) (s .i)))
+    let value : c .before .before .before .residue .result ≡ residueOf (a .q) (drawnOf (a .x) (s .i)) = c .before .before .before .residue .ensures ∙ ap
+    (residueOf (a .q)) number in
+    let list : s .t ≡ overwritten (s .i) f (a .t .now) = s .inv .2 in (
+      omega arith,
+      refl,
+      c .before .before .put .ensures ∙ ap₂ (λ (l : List ℕ) (v : ℕ). replaced l (s .i) (low v)) list value ∙ sym
+          (written-next f (a .t .now) (s .i)),
+    )
 
 same-length : tie.Need-same-length Inv-loop μ-loop
 same-length c = rw (c .before .loop .inv .2) (length-written _ _ _)

@@ -27,8 +27,12 @@ loop-again c =
     let a = c .before .before .before .before .before .before .before .before .args in
     let f : ℕ → ℕ = λ k. drawnOf (a .x) k % 256 in
     let number : c .before .before .before .drawn .result ≡ drawnOf (a .x) (s .i) = c .before .before .before .drawn .ensures in
-    let list : s .b ≡ overwritten (s .i) f (a .b .now) = s .inv .2 in
-    (omega arith, refl, c .before .before .put-byte .ensures ∙ ap₂ (λ (l : List ℕ) (v : ℕ). replaced l (s .i) (v % 256)) list number ∙ sym (written-next f (a .b .now) (s .i)))
+    let list : s .b ≡ overwritten (s .i) f (a .b .now) = s .inv .2 in (
+      omega arith,
+      refl,
+      c .before .before .put-byte .ensures ∙ ap₂ (λ (l : List ℕ) (v : ℕ). replaced l (s .i) (v % 256)) list number ∙ sym
+          (written-next f (a .b .now) (s .i)),
+    )
 
 same-length : tie.Need-same-length Inv-loop μ-loop
 same-length c = rw (c .before .loop .inv .2) (length-written _ _ _)

@@ -28,7 +28,8 @@ unfolding sameFront
 returns c =
     let a = c .before .before .before .before .before .before .before .args in
     let f : ℕ → Bool = λ k. eqb (at (a .s .now) k) (at (a .t .now) k) in
-    sym (fails f (c .before .before .before .before .loop .i) (length (a .s .now)) (c .before .before .before .loop-test .taken) (ne-eqb _ _ (λ z. c .if1 .taken (c .before .before .at .ensures ∙ z ∙ sym (c .before .at2 .ensures)))))
+    sym (fails f (c .before .before .before .before .loop .i) (length (a .s .now)) (c .before .before .before .loop-test .taken)
+    (ne-eqb _ _ (λ z. c .if1 .taken (c .before .before .at .ensures ∙ z ∙ sym (c .before .at2 .ensures)))))
 
 loop-again : tie.Need-loop-again Inv-loop μ-loop
 loop-again c =

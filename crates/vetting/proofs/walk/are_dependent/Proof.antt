@@ -6,7 +6,7 @@ use native.Mathlib.Omega.{arith}
 use lib.Dec.{eqb}
 use lib.Seq.{length-take-le}
 use Rattle.matrices.specs.Tables.{pivotsFrom}
-use Rattle.vetting.specs.Walking.{chosen, dependent}
+use Rattle.vetting.specs.Walking.{chosen, dependent, levelSize}
 use Rattle.vetting.proofs.GatherLaws.{many-most, few-numbers}
 use borrow.Author.Needs.{needs}
 use Rattle.vetting.proofs.walk.are_dependent.Statement.{statement}
@@ -18,7 +18,7 @@ gather-requires c κs =
     (d .pre .0, d .pre .1, d .pre .2, few-numbers (d .args .rows) (d .args .cols) (d .pre .0) (d .pre .1))
 
 -- the rows gathered have room
-room : (c : tie.After-gather) → c .gather .result * c .before .before .before .args .cols ≤ 384
+room : (c : tie.After-gather) → c .gather .result * c .before .before .before .args .cols ≤ levelSize
 room c =
     let d = c .before .before .before in
     few-numbers (c .gather .result) (d .args .cols)
@@ -28,11 +28,14 @@ mul-m : tie.Need-mul-m
 mul-m c = omega (arith, room (c .before))
 
 array-borrow-prefix-s : tie.Need-array-borrow-prefix-s
-array-borrow-prefix-s c = subst (λ (n : ℕ). c .before .gather .result * c .before .before .before .before .args .cols ≤ n) (sym (c .s2 .given)) (room (c .before))
+array-borrow-prefix-s c = subst (λ (n : ℕ). c .before .gather .result * c .before .before .before .before .args .cols ≤ n) (sym (c .s2 .given))
+    (room (c .before))
 
 slice-aggregate-reduce-rows : tie.Need-slice-aggregate-reduce-rows
 slice-aggregate-reduce-rows c =
-    sym (length-take-le (c .before .before .gather .result * c .before .before .before .before .before .args .cols) _ (subst (λ (n : ℕ). c .before .before .gather .result * c .before .before .before .before .before .args .cols ≤ n) (sym (c .before .s2 .given)) (room (c .before .before))))
+    sym (length-take-le (c .before .before .gather .result * c .before .before .before .before .before .args .cols) _
+    (subst (λ (n : ℕ). c .before .before .gather .result * c .before .before .before .before .before .args .cols ≤ n) (sym (c .before .s2 .given))
+    (room (c .before .before))))
 
 returns : tie.Need-returns
 unfolding dependent

@@ -25,7 +25,8 @@ loop-holds c =
     (omega arith, kept-none (a .q) (λ v. at (a .table .now) ((a .u * a .size + v) * a .rate + a .k)))
 
 -- symbol k of row v of the cluster lies in the table, and there are fewer rows than symbols
-index : (c : tie.In-loop Inv-loop μ-loop) → (let a = c .before .before .before .args in (a .u * a .size + c .before .loop .v) * a .rate + a .rate ≤ length (a .table .now))
+index : (c : tie.In-loop Inv-loop μ-loop) → (let a = c .before .before .before .args in (a .u * a .size + c .before .loop .v) * a .rate + a .rate ≤ length
+    (a .table .now))
 index c =
     let d = c .before .before .before in
     let a = d .args in

@@ -23,7 +23,8 @@ long : (c : tie.In-loop Inv-loop μ-loop) → length (c .before .loop .levels) �
 long c =
     let a = c .before .before .args in
     let s = c .before .loop in
-    ap length (s .inv .1) ∙ length-paste (a .levels .now) (a .b) (drop (a .a) (a .levels .now)) (s .j) (omega (arith, s .inv .0, c .before .before .pre .1)) (omega (arith, s .inv .0, c .before .before .pre .0, c .before .before .pre .1, length-drop (a .a) (a .levels .now)))
+    ap length (s .inv .1) ∙ length-paste (a .levels .now) (a .b) (drop (a .a) (a .levels .now)) (s .j) (omega (arith, s .inv .0, c .before .before .pre .1))
+    (omega (arith, s .inv .0, c .before .before .pre .0, c .before .before .pre .1, length-drop (a .a) (a .levels .now)))
 
 slice-read-levels : tie.Need-slice-read-levels Inv-loop μ-loop
 slice-read-levels c = omega (arith, long (c .before))
@@ -48,7 +49,8 @@ same-length : tie.Need-same-length Inv-loop μ-loop
 same-length c =
     let a = c .before .before .args in
     let s = c .before .loop in
-    ap length (s .inv .1) ∙ length-paste (a .levels .now) (a .b) (drop (a .a) (a .levels .now)) (s .j) (omega (arith, s .inv .0, c .before .before .pre .1)) (omega (arith, s .inv .0, c .before .before .pre .0, c .before .before .pre .1, length-drop (a .a) (a .levels .now)))
+    ap length (s .inv .1) ∙ length-paste (a .levels .now) (a .b) (drop (a .a) (a .levels .now)) (s .j) (omega (arith, s .inv .0, c .before .before .pre .1))
+    (omega (arith, s .inv .0, c .before .before .pre .0, c .before .before .pre .1, length-drop (a .a) (a .levels .now)))
 
 returns : tie.Need-returns Inv-loop μ-loop
 returns c =

@@ -10,8 +10,9 @@ use Rattle.vetting.proofs.GatherLaws.{few-numbers}
 use Rattle.vetting.proofs.LevelLaws.{part-is, changed}
 use Rattle.vetting.proofs.walk.descend.Statement.{statement}
 use Rattle.vetting.proofs.walk.descend.Tie as tie
+use Rattle.vetting.specs.Walking.{levelSize}
 
-size : (s : tie.Start) → s .args .rows * s .args .cols ≤ 384
+size : (s : tie.Start) → s .args .rows * s .args .cols ≤ levelSize
 size s = few-numbers (s .args .rows) (s .args .cols) (s .pre .1) (s .pre .2)
 
 mul-n : tie.Need-mul-n
@@ -21,7 +22,11 @@ add-e : tie.Need-add-e
 add-e c = omega (arith, size (c .before), c .before .pre .4)
 
 copy-down-requires : tie.Need-copy-down-requires
-copy-down-requires c κs = (omega (arith, size (c .before .before), c .before .before .pre .3), omega (arith, size (c .before .before), c .before .before .pre .4, c .before .before .pre .0))
+copy-down-requires c κs = (
+  omega (arith, size (c .before .before), c .before .before .pre .3),
+  omega
+      (arith, size (c .before .before), c .before .before .pre .4, c .before .before .pre .0),
+)
 
 part-eliminate-end : tie.Need-part-eliminate-end
 part-eliminate-end c =
@@ -29,8 +34,9 @@ part-eliminate-end c =
     let a = s .args in
     let n : ℕ = a .rows * a .cols in
     let e : length (c .before .before .copy-down .last .0) ≡ length (a .levels .now) =
-    ap length (c .before .before .copy-down .ensures) ∙ length-paste (a .levels .now) (a .k * 384) (drop (a .k * 384 - 384) (a .levels .now)) n (omega (arith, size s, s .pre .0, s .pre .4))
-    (omega (arith, size s, s .pre .0, s .pre .3, s .pre .4, length-drop (a .k * 384 - 384) (a .levels .now))) in
+    ap length (c .before .before .copy-down .ensures) ∙ length-paste (a .levels .now) (a .k * levelSize)
+    (drop (a .k * levelSize - levelSize) (a .levels .now)) n (omega (arith, size s, s .pre .0, s .pre .4))
+    (omega (arith, size s, s .pre .0, s .pre .3, s .pre .4, length-drop (a .k * levelSize - levelSize) (a .levels .now))) in
     omega (arith, size s, s .pre .0, s .pre .4)
 
 returns : tie.Need-returns
@@ -39,18 +45,18 @@ returns c =
     let a = s .args in
     let L : List ℕ = a .levels .now in
     let n : ℕ = a .rows * a .cols in
-    let d : ℕ = a .k * 384 in
+    let d : ℕ = a .k * levelSize in
     let m : ℕ = d + n - d in
     let E = eliminated (a .q) (a .rows) (a .cols) (a .i) in
     let P : List ℕ = c .before .before .before .before .before .before .copy-down .last .0 in
     let em : m ≡ n = add-sub-cancel-left d n in
-    let ha : d - 384 + n ≤ length L = omega (arith, size s, s .pre .0, s .pre .3, s .pre .4) in
+    let ha : d - levelSize + n ≤ length L = omega (arith, size s, s .pre .0, s .pre .3, s .pre .4) in
     let hb : d + n ≤ length L = omega (arith, size s, s .pre .0, s .pre .4) in
-    let ea : d - 384 ≡ (a .k - 1) * 384 = omega (arith, s .pre .3) in
+    let ea : d - levelSize ≡ (a .k - 1) * levelSize = omega (arith, s .pre .3) in
     ap (λ (X : List ℕ). take d P ++ (X ++ drop m (drop d P))) (c .before .before .eliminate .ensures .1)
     ∙ ap (λ (X : List ℕ). take d X ++ (E (take m (drop d X)) ++ drop m (drop d X))) (c .before .before .before .before .before .before .copy-down .ensures)
-    ∙ changed (d - 384) d n m L em ha hb (E (take m (drop d (paste L d (drop (d - 384) L) n))))
-    ∙ ap (λ (X : List ℕ). take d L ++ (E X ++ drop (d + n) L)) (part-is (d - 384) d n m L em ha hb ∙ ap (λ (z : ℕ). take n (drop z L)) ea)
+    ∙ changed (d - levelSize) d n m L em ha hb (E (take m (drop d (paste L d (drop (d - levelSize) L) n))))
+    ∙ ap (λ (X : List ℕ). take d L ++ (E X ++ drop (d + n) L)) (part-is (d - levelSize) d n m L em ha hb ∙ ap (λ (z : ℕ). take n (drop z L)) ea)
 
 pub descend-spec : {M : Type 1} → statement M
 descend-spec =

@@ -47,11 +47,21 @@ copy-row-requires c κs =
     let a = d .args in
     let h : s .i < a .rows = c .before .before .before .loop-test .taken in (
       room (a .rows) (a .cols) (s .i) (length (a .table .now)) h (omega (arith, d .pre .2)),
-      room (a .rows) (a .cols) (s .n) (length (s .out)) (omega (arith, s .inv .1, many-most (chosen (a .watch) (a .skip)) (s .i))) (omega (arith, d .pre .3, s .inv .2)),
+      room (a .rows) (a .cols) (s .n) (length (s .out)) (omega (arith, s .inv .1, many-most (chosen (a .watch) (a .skip)) (s .i)))
+          (omega (arith, d .pre .3, s .inv .2)),
     )
 
 add-n : tie.Need-add-n Inv-loop μ-loop
-add-n c = omega (arith, c .before .before .before .before .before .before .before .loop .inv .1, many-most (chosen (c .before .before .before .before .before .before .before .before .before .before .args .watch) (c .before .before .before .before .before .before .before .before .before .before .args .skip)) (c .before .before .before .before .before .before .before .loop .i), c .before .before .before .before .before .before .loop-test .taken, c .before .before .before .before .before .before .before .before .before .before .pre .0)
+add-n c = omega (
+  arith,
+  c .before .before .before .before .before .before .before .loop .inv .1,
+  many-most
+      (chosen (c .before .before .before .before .before .before .before .before .before .before .args .watch)
+      (c .before .before .before .before .before .before .before .before .before .before .args .skip))
+      (c .before .before .before .before .before .before .before .loop .i),
+  c .before .before .before .before .before .before .loop-test .taken,
+  c .before .before .before .before .before .before .before .before .before .before .pre .0,
+)
 
 add-i : tie.Need-add-i Inv-loop μ-loop
 add-i c = omega (arith, c .before .before .loop-test .taken, c .before .before .before .before .before .before .pre .0)
@@ -69,11 +79,13 @@ loop-again c =
     let f : ℕ → List ℕ = rowOf (a .cols) (a .table .now) in
     let few : s .n < a .rows = omega (arith, s .inv .1, many-most b (s .i)) in
     let fits : s .n * a .cols + a .cols ≤ length (s .out) = room (a .rows) (a .cols) (s .n) (length (s .out)) few (omega (arith, d .pre .3, s .inv .2)) in
-    let width : length (f (s .i)) ≡ a .cols = row-length (a .cols) (s .i) (a .table .now) (room (a .rows) (a .cols) (s .i) (length (a .table .now)) h (omega (arith, d .pre .2))) in
+    let width : length (f (s .i)) ≡ a .cols = row-length (a .cols) (s .i) (a .table .now)
+    (room (a .rows) (a .cols) (s .i) (length (a .table .now)) h (omega (arith, d .pre .2))) in
     let told = c .before .is-chosen .ensures in
     ⊎-elim
     (λ w.
-    let g = gather-taken b f (a .cols) (s .i) (s .n) (c .if1 .n) (s .out) (c .if1 .out) (s .inv .1) (s .inv .3) (sym (w .0 .taken) ∙ told) (w .6) _ (w .5 ∙ w .2 .ensures) (omega arith) width in
+    let g = gather-taken b f (a .cols) (s .i) (s .n) (c .if1 .n) (s .out) (c .if1 .out) (s .inv .1) (s .inv .3) (sym (w .0 .taken) ∙ told) (w .6) _
+    (w .5 ∙ w .2 .ensures) (omega arith) width in
     (omega arith, g .0, ap length (w .5 ∙ w .2 .ensures) ∙ put-length (s .n * a .cols) (a .cols) (s .out) (f (s .i)) fits width ∙ s .inv .2, g .1))
     (λ w.
     let g = gather-passed b f (a .cols) (s .i) (s .n) (c .if1 .n) (s .out) (c .if1 .out) (s .inv .1) (s .inv .3) (sym (w .0 .left) ∙ told) (w .2) (w .1) in

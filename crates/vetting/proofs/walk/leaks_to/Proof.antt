@@ -5,7 +5,7 @@ use native.Mathlib.Nat.{le-add-right, add-sub-cancel-left}
 use native.Mathlib.Omega.{arith}
 use lib.Count.{ones, ones-le}
 use lib.ListN.{take, drop}
-use Rattle.vetting.specs.Walking.{dependent}
+use Rattle.vetting.specs.Walking.{dependent, levelSize}
 use Rattle.vetting.proofs.GatherLaws.{few-numbers}
 use borrow.Author.Needs.{needs}
 use Rattle.vetting.proofs.walk.leaks_to.Statement.{statement}
@@ -15,7 +15,7 @@ use Rattle.vetting.proofs.walk.leaks_to.Tie as tie
 low : (s : tie.Start) → ones (s .args .g) ≤ 16
 low s = ones-le 16 (s .args .g) (omega arith)
 
-room : (s : tie.Start) → (s .args .clusters * s .args .size + s .args .clusters) * s .args .cols ≤ 384
+room : (s : tie.Start) → (s .args .clusters * s .args .size + s .args .clusters) * s .args .cols ≤ levelSize
 room s = few-numbers (s .args .clusters * s .args .size + s .args .clusters) (s .args .cols) (omega (arith, s .pre .1, s .pre .3)) (s .pre .4)
 
 cast-b : tie.Need-cast-b
@@ -39,7 +39,7 @@ part-are-dependent-end c = omega (arith, low (c .before .before), room (c .befor
 returns : tie.Need-returns
 returns c =
     let a = c .before .before .before .before .args in
-    let b : ℕ = ones (a .g) * 384 in
+    let b : ℕ = ones (a .g) * levelSize in
     let n : ℕ = (a .clusters * a .size + a .clusters) * a .cols in
     let e : b + n - b ≡ n = add-sub-cancel-left b n in
     c .are-dependent .ensures

@@ -9,7 +9,7 @@ use lib.ListN.{length}
 use Rattle.lists.specs.Lists.{tab, joinTo}
 use Rattle.lists.proofs.ListLaws.{length-tab}
 use Rattle.plans.specs.Plans.{usersOf}
-use Rattle.vetting.specs.Walking.{clusterSum, baseTable}
+use Rattle.vetting.specs.Walking.{clusterSum, baseTable, levelSize}
 use Rattle.plans.proofs.PlanBounds.{Bounds, bounds-known}
 use Rattle.lists.proofs.Joins.{length-join}
 use Rattle.vetting.proofs.BaseLaws.{base-room, copy-length, both-length, both-front}
@@ -21,10 +21,11 @@ within s = bounds-known (s .args .plan) (s .pre .0)
 
 -- the first level has room
 room : (s : tie.Start) → (let P = s .args .plan in usersOf P * P .rate + P .clusters * P .rate ≤ length (s .args .levels .now))
-room s = le-trans (base-room (s .args .plan) (within s)) (subst (λ (n : ℕ). 384 ≤ n) (sym (s .pre .3)) (lit≤ tt))
+room s = le-trans (base-room (s .args .plan) (within s)) (subst (λ (n : ℕ). levelSize ≤ n) (sym (s .pre .3)) (lit≤ tt))
 
 mul-e : tie.Need-mul-e
-mul-e c = fits-le (le-trans (le-add-left _ _) (base-room (c .before .before .before .before .before .args .plan) (within (c .before .before .before .before .before)))) (fits-lit tt)
+mul-e c = fits-le (le-trans (le-add-left _ _) (base-room (c .before .before .before .before .before .args .plan)
+    (within (c .before .before .before .before .before)))) (fits-lit tt)
 
 add-e : tie.Need-add-e
 add-e c = fits-le (base-room (c .before .before .before .before .before .args .plan) (within (c .before .before .before .before .before))) (fits-lit tt)
@@ -34,7 +35,12 @@ part-sum-rows-end c =
     let s = c .before .before .before .before .before .before .before .before .before in
     let P = s .args .plan in
     let n : ℕ = usersOf P * P .rate in
-    omega (arith, room s, copy-length n (P .clusters * P .rate) (n - 0) (n + P .clusters * P .rate - n) (s .args .levels .now) (s .args .table .now) _ (sub-zero _) (add-sub-cancel-left _ _) (s .pre .1) (room s) (c .before .before .copy .ensures))
+    omega (
+      arith,
+      room s,
+      copy-length n (P .clusters * P .rate) (n - 0) (n + P .clusters * P .rate - n) (s .args .levels .now) (s .args .table .now) _
+          (sub-zero _) (add-sub-cancel-left _ _) (s .pre .1) (room s) (c .before .before .copy .ensures),
+    )
 
 returns : tie.Need-returns
 unfolding baseTable
@@ -46,9 +52,12 @@ returns c =
     let m : ℕ = P .clusters * P .rate in
     let y : List ℕ = c .before .before .sum-rows .last .1 .1 .1 .1 .1 .0 in
     let told : y ≡ joinTo (P .clusters) (λ u. tab (P .rate) (clusterSum (P .q) (P .size) (P .rate) K u)) = c .before .before .sum-rows .ensures in
-    let l : length y ≡ m = ap length told ∙ length-join (P .rate) (λ u. tab (P .rate) (clusterSum (P .q) (P .size) (P .rate) K u)) (λ u. length-tab (P .rate) (clusterSum (P .q) (P .size) (P .rate) K u)) (P .clusters) in (
-      both-length n m (n - 0) (n + m - n) (s .args .levels .now) K _ (sub-zero _) (add-sub-cancel-left _ _) (s .pre .1) (room s) (c .before .before .before .before .before .before .copy .ensures) y l ∙ s .pre .3,
-      both-front n m (n - 0) (n + m - n) (s .args .levels .now) K _ (sub-zero _) (add-sub-cancel-left _ _) (s .pre .1) (room s) (c .before .before .before .before .before .before .copy .ensures) y ((usersOf P + P .clusters) * P .rate) l (add-mul _ _ _)
+    let l : length y ≡ m = ap length told ∙ length-join (P .rate) (λ u. tab (P .rate) (clusterSum (P .q) (P .size) (P .rate) K u))
+    (λ u. length-tab (P .rate) (clusterSum (P .q) (P .size) (P .rate) K u)) (P .clusters) in (
+      both-length n m (n - 0) (n + m - n) (s .args .levels .now) K _ (sub-zero _) (add-sub-cancel-left _ _) (s .pre .1) (room s)
+          (c .before .before .before .before .before .before .copy .ensures) y l ∙ s .pre .3,
+      both-front n m (n - 0) (n + m - n) (s .args .levels .now) K _ (sub-zero _) (add-sub-cancel-left _ _) (s .pre .1) (room s)
+          (c .before .before .before .before .before .before .copy .ensures) y ((usersOf P + P .clusters) * P .rate) l (add-mul _ _ _)
           ∙ ap (λ (x : List ℕ). K ++ x) told,
     )
 

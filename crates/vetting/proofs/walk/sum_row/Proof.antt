@@ -22,7 +22,8 @@ loop-again : tie.Need-loop-again Inv-loop μ-loop
 loop-again c =
     let s = c .before .before .loop in
     let d = c .before .before .before .before .before in
-    filling-next _ _ (s .out) (s .k) (c .cluster-sum .result) (s .inv) (omega (arith, c .before .loop-test .taken, s .inv .whole, d .pre .2)) (c .cluster-sum .ensures)
+    filling-next _ _ (s .out) (s .k) (c .cluster-sum .result) (s .inv) (omega (arith, c .before .loop-test .taken, s .inv .whole, d .pre .2))
+    (c .cluster-sum .ensures)
 
 same-length : tie.Need-same-length Inv-loop μ-loop
 same-length c = c .before .loop .inv .whole

@@ -15,7 +15,8 @@ use Rattle.vetting.proofs.walk.sum_rows.Statement.{statement}
 use Rattle.vetting.proofs.walk.sum_rows.Tie as tie
 
 abbrev Inv-loop : tie.InvT-loop
-Inv-loop q clusters size rate table out₀ u₀ out u = (u ≤ clusters) × (length out ≡ length out₀) × (take (u * rate) out ≡ joinTo u (λ u. tab rate (clusterSum q size rate table u)))
+Inv-loop q clusters size rate table out₀ u₀ out u = (u ≤ clusters) × (length out ≡ length out₀)
+    × (take (u * rate) out ≡ joinTo u (λ u. tab rate (clusterSum q size rate table u)))
 
 abbrev μ-loop : tie.MeasureT-loop
 μ-loop q clusters size rate table out₀ u₀ out u = clusters - u
@@ -27,7 +28,8 @@ loop-holds c =
     (omega arith, refl, ap (λ (k : ℕ). take k (a .out .now)) z ∙ join-none (λ u. tab (a .rate) (clusterSum (a .q) (a .size) (a .rate) (a .table .now) u)))
 
 -- row u lies in the list
-fits : (c : tie.In-loop Inv-loop μ-loop) → (let a = c .before .before .before .before .args in c .before .loop .u * a .rate + a .rate ≤ length (c .before .loop .out))
+fits : (c : tie.In-loop Inv-loop μ-loop) → (let a = c .before .before .before .before .args in c .before .loop .u * a .rate + a .rate ≤ length
+    (c .before .loop .out))
 fits c =
     let s = c .before .loop in
     let d = c .before .before .before .before in
@@ -77,7 +79,8 @@ loop-again c =
     let k : ℕ = b + a .rate - b in
     let y : List ℕ = c .before .before .sum-row .last .1 .1 .1 .1 .1 .0 in
     let l : length (f (s .u)) ≡ a .rate = length-tab (a .rate) (clusterSum (a .q) (a .size) (a .rate) (a .table .now) (s .u)) in
-    let t : length (take k (drop b (s .out))) ≡ k = length-take-le k (drop b (s .out)) (omega (arith, fits (c .before .before .before .before), length-drop b (s .out))) in (
+    let t : length (take k (drop b (s .out))) ≡ k = length-take-le k (drop b (s .out))
+    (omega (arith, fits (c .before .before .before .before), length-drop b (s .out))) in (
       omega (arith, c .before .before .before .before .loop-test .taken),
       same-len-mid b k (s .out) y (ap length (c .before .before .sum-row .ensures) ∙ omega arith) ∙ s .inv .1,
       join-next f (a .rate) (s .u) (s .out) y _ (omega (arith, fits (c .before .before .before .before))) l (c .before .before .sum-row .ensures) (s .inv .2),

@@ -10,11 +10,14 @@ use lib.Count.{ones-le, trailing-le}
 use lib.Pow.{pow-pos, pow-mono}
 use lib.ListN.{take}
 use Rattle.vetting.specs.declared.Pair.{Pair}
+use Rattle.plans.specs.declared.Plan.{Plan}
 use Rattle.plans.specs.Plans.{plan}
 use Rattle.vetting.specs.Walk.{observers}
-use Rattle.vetting.specs.Walking.{watchMask, dependent, tableOf, hit, firstHit, walked}
+use Rattle.vetting.specs.Walking.{watchMask, dependent, tableOf, hit, firstHit, walked, mostRows}
 use Rattle.lists.proofs.BitLaws.{one-shl, low-ones}
-use Rattle.vetting.proofs.WalkLaws.{Holds, Full, to-next, full-none, full-skip, full-at, full-step, pairOf, observersFrom, observers-are, observers-next, observers-none, pairsFrom, pairs-are, pairs-kept, pairs-skipped, pairs-end, hit-first, miss-first, hit-none}
+use Rattle.vetting.proofs.WalkLaws.{Holds, Full, to-next, full-none, full-skip, full-at, full-step, pairOf, observersFrom, observers-are}
+use Rattle.vetting.proofs.WalkLaws.{observers-next, observers-none, pairsFrom, pairs-are, pairs-kept, pairs-skipped, pairs-end, hit-first}
+use Rattle.vetting.proofs.WalkLaws.{miss-first, hit-none}
 use Rattle.vetting.proofs.walk.walk_levels.Statement.{statement}
 use Rattle.vetting.proofs.walk.walk_levels.Tie as tie
 
@@ -29,7 +32,8 @@ abbrev Inv-loop : tie.InvT-loop
 Inv-loop q clusters size limit cols levels users rows last top g k w₀ w =
     let T : List ℕ = base clusters size cols levels in
     (w ≤ clusters + 2)
-    × (firstHit (hit (plan clusters size limit cols q) T) (map (pairOf g) (observersFrom clusters (clusters + 2 - w) w) ++ rest clusters size limit g) ≡ walked (plan clusters size limit cols q) T)
+    × (firstHit (hit (plan clusters size limit cols q) T) (map (pairOf g) (observersFrom clusters (clusters + 2 - w) w) ++ rest clusters size limit g) ≡ walked
+    (plan clusters size limit cols q) T)
 
 abbrev μ-loop : tie.MeasureT-loop
 μ-loop q clusters size limit cols levels users rows last top g k w₀ w = clusters + 2 - w
@@ -39,10 +43,21 @@ Inv-walk q clusters size limit cols levels₀ users rows last top g₀ levels g 
     let T : List ℕ = base clusters size cols levels₀ in
     (g < 2 ^ (clusters * size))
     × Holds q (clusters * size + clusters) cols limit T levels g
-    × (firstHit (hit (plan clusters size limit cols q) T) (pairsFrom (clusters * size) limit clusters (2 ^ (clusters * size) - g) g) ≡ walked (plan clusters size limit cols q) T)
+    × (firstHit (hit (plan clusters size limit cols q) T) (pairsFrom (clusters * size) limit clusters (2 ^ (clusters * size) - g) g) ≡ walked
+    (plan clusters size limit cols q) T)
 
 abbrev μ-walk : tie.MeasureT-walk
 μ-walk q clusters size limit cols levels₀ users rows last top g₀ levels g = 2 ^ (clusters * size) - g
+
+-- the plan and the table that the call is about, and the pairs after a coalition
+abbrev planOf : tie.Start Inv-loop μ-loop Inv-walk μ-walk → Plan
+planOf s = plan (s .args .clusters) (s .args .size) (s .args .limit) (s .args .cols) (s .args .q)
+
+abbrev baseOf : tie.Start Inv-loop μ-loop Inv-walk μ-walk → List ℕ
+baseOf s = base (s .args .clusters) (s .args .size) (s .args .cols) (s .args .levels .now)
+
+abbrev restOf : tie.Start Inv-loop μ-loop Inv-walk μ-walk → ℕ → List Pair
+restOf s g = rest (s .args .clusters) (s .args .size) (s .args .limit) g
 
 -- the machine's 1 << n
 top-is : (n : ℕ) → n ≤ 16 → 1 * 2 ^ n % 2 ^ 32 ≡ 2 ^ n
@@ -52,88 +67,98 @@ top-is n h = one-shl 32 n (omega arith) ∙ one-mul (2 ^ n)
 small : (c : tie.At-walk Inv-loop μ-loop Inv-walk μ-walk) → c .walk .g < 2 ^ 16
 small c = omega (arith, c .walk .inv .0, pow-mono (c .before .before .pre .3))
 
-rows-few : (s : tie.Start Inv-loop μ-loop Inv-walk μ-walk) → s .args .clusters * s .args .size + s .args .clusters ≤ 24
+rows-few : (s : tie.Start Inv-loop μ-loop Inv-walk μ-walk) → s .args .clusters * s .args .size + s .args .clusters ≤ mostRows
 rows-few s = omega (arith, s .pre .1, s .pre .3)
 
 -- the coalition in hand has its observers before it
 kept : (c : tie.Then1 Inv-loop μ-loop Inv-walk μ-walk)
-    → (let g : ℕ = c .before .walk .g in let a = c .before .before .before .args in
-    firstHit (hit (plan (a .clusters) (a .size) (a .limit) (a .cols) (a .q)) (base (a .clusters) (a .size) (a .cols) (a .levels .now))) (map (pairOf g) (observers (a .clusters)) ++ rest (a .clusters) (a .size) (a .limit) g) ≡ walked (plan (a .clusters) (a .size) (a .limit) (a .cols) (a .q)) (base (a .clusters) (a .size) (a .cols) (a .levels .now)))
+    → (let g : ℕ = c .before .walk .g in let s₀ = c .before .before .before in let a = s₀ .args in
+    firstHit (hit (planOf s₀) (baseOf s₀)) (map (pairOf g) (observers (a .clusters)) ++ restOf s₀ g) ≡ walked (planOf s₀) (baseOf s₀))
 kept c =
     let g : ℕ = c .before .walk .g in
-    let a = c .before .before .before .args in
+    let s₀ = c .before .before .before in let a = s₀ .args in
     let i = c .before .walk .inv in
-    ap (firstHit (hit (plan (a .clusters) (a .size) (a .limit) (a .cols) (a .q)) (base (a .clusters) (a .size) (a .cols) (a .levels .now)))) (sym (pairs-kept (a .clusters * a .size) (a .limit) (a .clusters) g (i .0) (omega (arith, c .if1 .taken)))) ∙ i .2
+    ap (firstHit (hit (planOf s₀) (baseOf s₀))) (sym (pairs-kept (a .clusters * a .size) (a .limit) (a .clusters) g (i .0) (omega (arith, c .if1 .taken))))
+    ∙ i .2
 
 -- each level up to that of g is right
 full : (c : tie.Joined2 Inv-loop μ-loop Inv-walk μ-walk)
-    → (let a = c .before .before .before .before .args in Full (a .q) (a .clusters * a .size + a .clusters) (a .cols) (a .limit) (base (a .clusters) (a .size) (a .cols) (a .levels .now)) (c .if2 .levels) (c .before .before .walk .g))
+    → (let s₀ = c .before .before .before .before in let a = s₀ .args in Full (a .q) (a .clusters * a .size + a .clusters) (a .cols) (a .limit) (baseOf s₀)
+    (c .if2 .levels) (c .before .before .walk .g))
 full c =
     let s = c .before .before .before .before in
-    let a = s .args in
+    let s₀ = s in let a = s₀ .args in
     let g : ℕ = c .before .before .walk .g in
     let L : List ℕ = c .before .before .walk .levels in
     let rows : ℕ = a .clusters * a .size + a .clusters in
-    let T : List ℕ = (base (a .clusters) (a .size) (a .cols) (a .levels .now)) in
+    let T : List ℕ = (baseOf s₀) in
     let H : Holds (a .q) rows (a .cols) (a .limit) T L g = c .before .before .walk .inv .1 in
     ⊎-elim
     (λ w.
     subst (λ (X : List ℕ). Full (a .q) rows (a .cols) (a .limit) T X g) (sym (w .5 ∙ w .2 .ensures))
-    (full-step (a .q) rows (a .cols) (a .limit) T L g (pos-of-ne-zero (w .0 .taken)) (small (c .before .before)) (rows-few s) (s .pre .4) H (omega (arith, c .before .if1 .taken))))
+    (full-step (a .q) rows (a .cols) (a .limit) T L g (pos-of-ne-zero (w .0 .taken)) (small (c .before .before)) (rows-few s) (s .pre .4) H
+    (omega (arith, c .before .if1 .taken))))
     (λ w.
     let z : 0 ≡ g = sym (w .0 .left) in
     subst (λ (X : List ℕ). Full (a .q) rows (a .cols) (a .limit) T X g) (sym (w .1))
-    (subst (λ (x : ℕ). Full (a .q) rows (a .cols) (a .limit) T L x) z (full-none (a .q) rows (a .cols) (a .limit) T L (subst (λ (x : ℕ). Holds (a .q) rows (a .cols) (a .limit) T L x) (sym z) H))))
+    (subst (λ (x : ℕ). Full (a .q) rows (a .cols) (a .limit) T L x) z
+    (full-none (a .q) rows (a .cols) (a .limit) T L (subst (λ (x : ℕ). Holds (a .q) rows (a .cols) (a .limit) T L x) (sym z) H))))
     (c .if2 .came)
 
 -- the test of an observer is that of the definition
 tested : (c : tie.After-leaks-to Inv-loop μ-loop Inv-walk μ-walk)
-    → (let d = c .before .before .before .before in let a = d .before .before .before .before .args in
-    c .leaks-to .result ≡ hit (plan (a .clusters) (a .size) (a .limit) (a .cols) (a .q)) (base (a .clusters) (a .size) (a .cols) (d .if2 .levels)) (d .before .before .walk .g) (c .before .before .before .loop .w % (a .clusters + 1)))
+    → (let d = c .before .before .before .before in let s₀ = d .before .before .before .before in let a = s₀ .args in
+    c .leaks-to .result ≡ hit (planOf s₀) (base (a .clusters) (a .size) (a .cols) (d .if2 .levels)) (d .before .before .walk .g)
+    (c .before .before .before .loop .w % (a .clusters + 1)))
 tested c =
     let d = c .before .before .before .before in
-    let a = d .before .before .before .before .args in
+    let s₀ = d .before .before .before .before in let a = s₀ .args in
     let rows : ℕ = a .clusters * a .size + a .clusters in
     let g : ℕ = d .before .before .walk .g in
     let w : ℕ = c .before .before .before .loop .w % (a .clusters + 1) in
     let G = full d in
     c .leaks-to .ensures
     ∙ ap (dependent (a .q) rows (a .cols) (watchMask (a .clusters) (a .size) g w) g)
-    (full-at (a .q) rows (a .cols) (a .limit) (base (a .clusters) (a .size) (a .cols) (a .levels .now)) (d .if2 .levels) g (omega (arith, d .before .if1 .taken)) G
+    (full-at (a .q) rows (a .cols) (a .limit) (baseOf s₀) (d .if2 .levels) g (omega (arith, d .before .if1 .taken)) G
     ∙ ap (λ (X : List ℕ). tableOf (a .q) rows (a .cols) X g) (sym (G .base)))
 
 -- after a coalition, looked at or not
 joined : (c : tie.Joined1 Inv-loop μ-loop Inv-walk μ-walk)
-    → (let a = c .before .before .before .args in Full (a .q) (a .clusters * a .size + a .clusters) (a .cols) (a .limit) (base (a .clusters) (a .size) (a .cols) (a .levels .now)) (c .if1 .levels) (c .before .walk .g))
+    → (let s₀ = c .before .before .before in let a = s₀ .args in Full (a .q) (a .clusters * a .size + a .clusters) (a .cols) (a .limit) (baseOf s₀)
+    (c .if1 .levels) (c .before .walk .g))
 joined c =
-    let a = c .before .before .before .args in
+    let s₀ = c .before .before .before in let a = s₀ .args in
     let g : ℕ = c .before .walk .g in
     let rows : ℕ = a .clusters * a .size + a .clusters in
-    let T : List ℕ = (base (a .clusters) (a .size) (a .cols) (a .levels .now)) in
+    let T : List ℕ = (baseOf s₀) in
     ⊎-elim
-    (λ w. subst (λ (X : List ℕ). Full (a .q) rows (a .cols) (a .limit) T X g) (sym (w .4)) (full (record { before = record { before = c .before; if1 = w .0 }; if2 = w .1 })))
-    (λ w. subst (λ (X : List ℕ). Full (a .q) rows (a .cols) (a .limit) T X g) (sym (w .1)) (full-skip (a .q) rows (a .cols) (a .limit) T (c .before .walk .levels) g (w .0 .left) (c .before .walk .inv .1)))
+    (λ w. subst (λ (X : List ℕ). Full (a .q) rows (a .cols) (a .limit) T X g) (sym (w .4))
+    (full (record { before = record { before = c .before; if1 = w .0 }; if2 = w .1 })))
+    (λ w. subst (λ (X : List ℕ). Full (a .q) rows (a .cols) (a .limit) T X g) (sym (w .1))
+    (full-skip (a .q) rows (a .cols) (a .limit) T (c .before .walk .levels) g (w .0 .left) (c .before .walk .inv .1)))
     (c .if1 .came)
 
 -- the coalition is behind, or was none
 over : (c : tie.Joined1 Inv-loop μ-loop Inv-walk μ-walk)
-    → (let g : ℕ = c .before .walk .g in let a = c .before .before .before .args in
-    firstHit (hit (plan (a .clusters) (a .size) (a .limit) (a .cols) (a .q)) (base (a .clusters) (a .size) (a .cols) (a .levels .now))) (rest (a .clusters) (a .size) (a .limit) g) ≡ walked (plan (a .clusters) (a .size) (a .limit) (a .cols) (a .q)) (base (a .clusters) (a .size) (a .cols) (a .levels .now)))
+    → (let g : ℕ = c .before .walk .g in let s₀ = c .before .before .before in let a = s₀ .args in
+    firstHit (hit (planOf s₀) (baseOf s₀)) (restOf s₀ g) ≡ walked (planOf s₀) (baseOf s₀))
 over c =
-    let a = c .before .before .before .args in
+    let s₀ = c .before .before .before in let a = s₀ .args in
     let g : ℕ = c .before .walk .g in
     let i = c .before .walk .inv in
-    let R : List Pair = rest (a .clusters) (a .size) (a .limit) g in
+    let R : List Pair = restOf s₀ g in
     ⊎-elim
     (λ w.
-    subst (λ (X : List ℕ). firstHit (hit (plan (a .clusters) (a .size) (a .limit) (a .cols) (a .q)) X) R ≡ walked (plan (a .clusters) (a .size) (a .limit) (a .cols) (a .q)) X)
+    subst (λ (X : List ℕ). firstHit (hit (planOf s₀) X) R ≡ walked (planOf s₀) X)
     (full (record { before = record { before = c .before; if1 = w .0 }; if2 = w .1 }) .base)
-    (ap (λ (l : List ℕ). firstHit (hit (plan (a .clusters) (a .size) (a .limit) (a .cols) (a .q)) (base (a .clusters) (a .size) (a .cols) (w .1 .levels))) (map (pairOf g) l ++ R)) (sym (observers-none (a .clusters) (w .2 .w) (w .3 .left))) ∙ w .2 .inv .1))
-    (λ w. ap (firstHit (hit (plan (a .clusters) (a .size) (a .limit) (a .cols) (a .q)) (base (a .clusters) (a .size) (a .cols) (a .levels .now)))) (sym (pairs-skipped (a .clusters * a .size) (a .limit) (a .clusters) g (i .0) (w .0 .left))) ∙ i .2)
+    (ap (λ (l : List ℕ). firstHit (hit (planOf s₀) (base (a .clusters) (a .size) (a .cols) (w .1 .levels))) (map (pairOf g) l ++ R))
+    (sym (observers-none (a .clusters) (w .2 .w) (w .3 .left))) ∙ w .2 .inv .1))
+    (λ w. ap (firstHit (hit (planOf s₀) (baseOf s₀))) (sym (pairs-skipped (a .clusters * a .size) (a .limit) (a .clusters) g (i .0) (w .0 .left))) ∙ i .2)
     (c .if1 .came)
 
 -- the coalition in hand is not the last
-more : (c : tie.Else4 Inv-loop μ-loop Inv-walk μ-walk) → (let a = c .before .before .before .before .args in c .before .before .walk .g + 1 < 2 ^ (a .clusters * a .size))
+more : (c : tie.Else4 Inv-loop μ-loop Inv-walk μ-walk)
+    → (let s₀ = c .before .before .before .before in let a = s₀ .args in c .before .before .walk .g + 1 < 2 ^ (a .clusters * a .size))
 more c =
     let s = c .before .before .walk in
     let d = c .before .before .before .before in
@@ -161,18 +186,21 @@ shl-top : tie.Need-shl-top Inv-loop μ-loop Inv-walk μ-walk
 shl-top c = omega (arith, c .before .pre .3)
 
 sub-top : tie.Need-sub-top Inv-loop μ-loop Inv-walk μ-walk
-sub-top c = rw (top-is (c .before .args .clusters * c .before .args .size) (c .before .pre .3)) (omega (arith, pow-pos (c .before .args .clusters * c .before .args .size)))
+sub-top c = rw (top-is (c .before .args .clusters * c .before .args .size) (c .before .pre .3))
+    (omega (arith, pow-pos (c .before .args .clusters * c .before .args .size)))
 
 cast-top-2 : tie.Need-cast-top-2 Inv-loop μ-loop Inv-walk μ-walk
-cast-top-2 c = rw (top-is (c .before .args .clusters * c .before .args .size) (c .before .pre .3)) (omega (arith, pow-pos (c .before .args .clusters * c .before .args .size), pow-mono (c .before .pre .3)))
+cast-top-2 c = rw (top-is (c .before .args .clusters * c .before .args .size) (c .before .pre .3))
+    (omega (arith, pow-pos (c .before .args .clusters * c .before .args .size), pow-mono (c .before .pre .3)))
 
 walk-holds : tie.Need-walk-holds Inv-loop μ-loop Inv-walk μ-walk
 walk-holds c =
-    let a = c .before .args in
+    let s₀ = c .before in let a = s₀ .args in
     let n : ℕ = a .clusters * a .size in (
       pow-pos n,
       record { size = c .before .pre .0; base = refl; above = λ j l o. absurd (omega arith) },
-      ap (firstHit (hit (plan (a .clusters) (a .size) (a .limit) (a .cols) (a .q)) (base (a .clusters) (a .size) (a .cols) (a .levels .now)))) (ap (λ (k : ℕ). pairsFrom n (a .limit) (a .clusters) k 0) (sub-zero (2 ^ n)) ∙ pairs-are (a .clusters) (a .size) (a .limit)),
+      ap (firstHit (hit (planOf s₀) (baseOf s₀))) (ap (λ (k : ℕ). pairsFrom n (a .limit) (a .clusters) k 0) (sub-zero (2 ^ n)) ∙ pairs-are (a .clusters)
+          (a .size) (a .limit)),
     )
 
 cast-k : tie.Need-cast-k Inv-loop μ-loop Inv-walk μ-walk
@@ -184,19 +212,26 @@ cast-i c = omega (arith, trailing-le 16 (c .before .before .walk .g))
 descend-requires : tie.Need-descend-requires Inv-loop μ-loop Inv-walk μ-walk
 descend-requires c κs =
     let d = c .before .before .before in
-    let s = d .before .before in
-    (d .walk .inv .1 .size, rows-few s, s .pre .4, omega (arith, low-ones 16 (d .walk .g) (pos-of-ne-zero (c .before .if2 .taken)) (small d)), ones-le 16 (d .walk .g) (small d))
+    let s = d .before .before in (
+      d .walk .inv .1 .size,
+      rows-few s,
+      s .pre .4,
+      omega (arith, low-ones 16 (d .walk .g) (pos-of-ne-zero (c .before .if2 .taken)) (small d)),
+      ones-le 16
+          (d .walk .g) (small d),
+    )
 
 loop-holds : tie.Need-loop-holds Inv-loop μ-loop Inv-walk μ-walk
 loop-holds c =
-    let a = c .before .before .before .before .args in
+    let s₀ = c .before .before .before .before in let a = s₀ .args in
     let g : ℕ = c .before .before .walk .g in
-    let R : List Pair = rest (a .clusters) (a .size) (a .limit) g in
+    let R : List Pair = restOf s₀ g in
     let k : a .clusters + 2 - 1 ≡ a .clusters + 1 = omega arith in (
       omega arith,
-      ap (λ (l : List ℕ). firstHit (hit (plan (a .clusters) (a .size) (a .limit) (a .cols) (a .q)) (base (a .clusters) (a .size) (a .cols) (c .if2 .levels))) (map (pairOf g) l ++ R))
+      ap (λ (l : List ℕ). firstHit (hit (planOf s₀) (base (a .clusters) (a .size) (a .cols) (c .if2 .levels))) (map (pairOf g) l ++ R))
           (ap (λ (n : ℕ). observersFrom (a .clusters) n 1) k ∙ observers-are (a .clusters))
-          ∙ subst (λ (X : List ℕ). firstHit (hit (plan (a .clusters) (a .size) (a .limit) (a .cols) (a .q)) X) (map (pairOf g) (observers (a .clusters)) ++ R) ≡ walked (plan (a .clusters) (a .size) (a .limit) (a .cols) (a .q)) X) (sym (full c .base)) (kept (c .before)),
+          ∙ subst (λ (X : List ℕ). firstHit (hit (planOf s₀) X) (map (pairOf g) (observers (a .clusters)) ++ R) ≡ walked (planOf s₀) X) (sym (full c .base))
+          (kept (c .before)),
     )
 
 rem-observer : tie.Need-rem-observer Inv-loop μ-loop Inv-walk μ-walk
@@ -217,11 +252,11 @@ loop-less c = omega (arith, c .before .before .before .loop-test .taken)
 loop-again : tie.Need-loop-again Inv-loop μ-loop Inv-walk μ-walk
 loop-again c =
     let d = c .before .before .before .before .before in
-    let a = d .before .before .before .before .args in
+    let s₀ = d .before .before .before .before in let a = s₀ .args in
     let g : ℕ = d .before .before .walk .g in
     let w : ℕ = c .before .before .before .before .loop .w in
-    let f = hit (plan (a .clusters) (a .size) (a .limit) (a .cols) (a .q)) (base (a .clusters) (a .size) (a .cols) (d .if2 .levels)) in
-    let R : List Pair = rest (a .clusters) (a .size) (a .limit) g in
+    let f = hit (planOf s₀) (base (a .clusters) (a .size) (a .cols) (d .if2 .levels)) in
+    let R : List Pair = restOf s₀ g in
     let h = c .before .before .before .loop-test .taken in (
       omega (arith, h),
       sym (miss-first f g R (w % (a .clusters + 1)) (observersFrom (a .clusters) (a .clusters + 2 - (w + 1)) (w + 1)) (sym (tested (c .before)) ∙ c .if3 .left))
@@ -244,15 +279,15 @@ same-length c = full (c .before .before .before .before .before) .size ∙ sym (
 returns : tie.Need-returns Inv-loop μ-loop Inv-walk μ-walk
 returns c =
     let d = c .before .before .before .before .before in
-    let a = d .before .before .before .before .args in
+    let s₀ = d .before .before .before .before in let a = s₀ .args in
     let g : ℕ = d .before .before .walk .g in
     let w : ℕ = c .before .before .before .before .loop .w in
-    let f = hit (plan (a .clusters) (a .size) (a .limit) (a .cols) (a .q)) (base (a .clusters) (a .size) (a .cols) (d .if2 .levels)) in
-    let R : List Pair = rest (a .clusters) (a .size) (a .limit) g in
+    let f = hit (planOf s₀) (base (a .clusters) (a .size) (a .cols) (d .if2 .levels)) in
+    let R : List Pair = restOf s₀ g in
     sym (hit-first f g R (w % (a .clusters + 1)) (observersFrom (a .clusters) (a .clusters + 2 - (w + 1)) (w + 1)) (sym (tested (c .before)) ∙ c .if3 .taken))
     ∙ ap (λ (l : List ℕ). firstHit f (map (pairOf g) l ++ R)) (sym (observers-next (a .clusters) w (c .before .before .before .loop-test .taken)))
     ∙ c .before .before .before .before .loop .inv .1
-    ∙ ap (walked (plan (a .clusters) (a .size) (a .limit) (a .cols) (a .q))) (full d .base)
+    ∙ ap (walked (planOf s₀)) (full d .base)
 
 same-length-2 : tie.Need-same-length-2 Inv-loop μ-loop Inv-walk μ-walk
 same-length-2 c = joined (c .before) .size ∙ sym (c .before .before .before .before .pre .0)
@@ -260,12 +295,12 @@ same-length-2 c = joined (c .before) .size ∙ sym (c .before .before .before .b
 returns-2 : tie.Need-returns-2 Inv-loop μ-loop Inv-walk μ-walk
 returns-2 c =
     let d = c .before .before .before .before in
-    let a = d .args in
+    let s₀ = d in let a = s₀ .args in
     let n : ℕ = a .clusters * a .size in
     let g : ℕ = c .before .before .walk .g in
     let e : 1 * 2 ^ n % 2 ^ 32 ≡ 2 ^ n = top-is n (d .pre .3) in
     let l : g ≡ 2 ^ n - 1 = c .if4 .taken ∙ ap (λ (k : ℕ). k - 1) e in
-    let f = hit (plan (a .clusters) (a .size) (a .limit) (a .cols) (a .q)) (base (a .clusters) (a .size) (a .cols) (a .levels .now)) in
+    let f = hit (planOf s₀) (baseOf s₀) in
     sym (ap (firstHit f) (pairs-end n (a .limit) (a .clusters) (2 ^ n - (g + 1)) (g + 1) (omega (arith, pow-pos n))) ∙ hit-none f)
     ∙ over (c .before)
 

@@ -10,8 +10,15 @@ use Rattle.vetting.proofs.walk.watch_mask.Tie as tie
 
 cluster-mask-requires : tie.Need-cluster-mask-requires
 cluster-mask-requires c κs =
-    let a = c .before .args in
-    (c .before .pre .1, omega (arith, c .before .pre .2, mul-le-mul {n₁ = suc (a .w - 1)} {m₁ = a .size} {n₂ = a .clusters} {m₂ = a .size} (omega (arith, c .if1 .left, c .before .pre .3)) (omega arith)))
+    let a = c .before .args in (
+      c .before .pre .1,
+      omega (
+        arith,
+        c .before .pre .2,
+        mul-le-mul {n₁ = suc (a .w - 1)} {m₁ = a .size} {n₂ = a .clusters} {m₂ = a .size}
+            (omega (arith, c .if1 .left, c .before .pre .3)) (omega arith),
+      ),
+    )
 
 returns : tie.Need-returns
 returns c =

@@ -3,20 +3,21 @@ use borrow.Author.Tests.{not-false}
 use mathlib.Core.Path.{_≡_, _∙_}
 use mathlib.Core.List.{[]}
 use Rattle.plans.specs.Plans.{tableChecks}
-use Rattle.vetting.specs.Verdict.{columnChecks}
+use Rattle.vetting.specs.Vet.{columnChecks}
 use Rattle.refusals.specs.Codes.{accepted, firstOf}
 use Rattle.refusals.proofs.Answers.{passes, first-answers}
 use Rattle.residues.proofs.PrimeLaws.{prime-pos}
 use Rattle.refusals.proofs.Orders.{rest-decides}
 use Rattle.plans.proofs.TableLaws.{table-passed}
-use Rattle.vetting.proofs.verdict.check_table.Statement.{statement}
-use Rattle.vetting.proofs.verdict.check_table.Tie as tie
+use Rattle.vetting.proofs.checks.check_table.Statement.{statement}
+use Rattle.vetting.proofs.checks.check_table.Tie as tie
 
 returns : tie.Need-returns
 returns c =
     let a = c .before .before .before .before .args in
     let checked = c .before .before .check-plan in
-    first-answers (tableChecks (a .plan) (a .table .now)) (columnChecks (a .plan) (a .table .now)) (checked .result) (checked .ensures) (c .before .is-accepted .ensures) (c .if1 .taken)
+    first-answers (tableChecks (a .plan) (a .table .now)) (columnChecks (a .plan) (a .table .now)) (checked .result) (checked .ensures)
+    (c .before .is-accepted .ensures) (c .if1 .taken)
 
 -- the checks accepted
 told : (c : tie.Else1) → (let a = c .before .before .before .before .args in accepted ≡ firstOf (tableChecks (a .plan) (a .table .now)))

@@ -32,5 +32,5 @@ otherChecks P K = tableChecks P K ++ columnChecks P K
 abbrev pub vetChecks : Plan → List ℕ → List (Bool × Code)
 vetChecks P K = otherChecks P K ++ map (leakCheck P K) (pairs (P .clusters) (P .size) (P .limit))
 
-abbrev pub verdict : Plan → List ℕ → Code
-verdict P K = firstOf (vetChecks P K)
+abbrev pub vetCode : Plan → List ℕ → Code
+vetCode P K = firstOf (vetChecks P K)

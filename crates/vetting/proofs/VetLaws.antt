@@ -18,7 +18,7 @@ use Rattle.plans.specs.Plans.{usersOf}
 use Rattle.vetting.specs.Pools.{poolOf}
 use Rattle.plans.proofs.TableLaws.{Passed, table-passed}
 use Rattle.vetting.specs.Walk.{pairs}
-use Rattle.vetting.specs.Verdict.{columnCheck, leakCheck, otherChecks, verdict, columnChecks}
+use Rattle.vetting.specs.Vet.{columnCheck, leakCheck, otherChecks, vetCode, columnChecks}
 use Rattle.vetting.specs.Walking.{baseTable, hit, walked, foundCode}
 use Rattle.refusals.proofs.Orders.{rest-decides}
 use Rattle.vetting.proofs.Deciding.{pair-verdict, found-verdict}
@@ -56,7 +56,8 @@ module _ (P : Plan) (K : List ℕ) where
       (column-first n (λ i. f (suc i)) k (le-of-suc-le-suc h) (λ j l. z (suc j) (suc-le-suc l)) x)
 
   -- one column more sums to zero
-  pub zeros-next : (k : ℕ) → ((j : ℕ) → j < k → columnSum (poolOf P K) j ≡ 0) → columnSum (poolOf P K) k ≡ 0 → (j : ℕ) → j < k + 1 → columnSum (poolOf P K) j ≡ 0
+  pub zeros-next : (k : ℕ) → ((j : ℕ) → j < k → columnSum (poolOf P K) j ≡ 0) → columnSum (poolOf P K) k ≡ 0 → (j : ℕ) → j < k + 1 → columnSum (poolOf P K) j
+      ≡ 0
   zeros-next k z e j h = go (decLt j k)
     where
       go : Dec (j < k) → columnSum (poolOf P K) j ≡ 0
@@ -76,7 +77,7 @@ module _ (P : Plan) (K : List ℕ) where
     walk-pair = pair-verdict P K (passed .bounds) (passed .size) (passed .prime) (passed .below) (columns-passed e)
 
     -- what the walk finds
-    pub walk-verdict : foundCode (walked P (baseTable P K)) ≡ verdict P K
-    walk-verdict =
+    pub walk-code : foundCode (walked P (baseTable P K)) ≡ vetCode P K
+    walk-code =
         found-verdict P K (passed .bounds) (passed .size) (passed .prime) (passed .below) (columns-passed e)
         ∙ rest-decides (otherChecks P K) (map (leakCheck P K) (pairs (P .clusters) (P .size) (P .limit))) all-numbered e

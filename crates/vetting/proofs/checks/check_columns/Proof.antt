@@ -5,9 +5,9 @@ use native.Mathlib.Omega.{arith}
 use Rattle.vetting.specs.Pools.{poolOf}
 use Rattle.secrecy.specs.Model.{columnSum}
 use Rattle.plans.proofs.PlanBounds.{bounds-known}
-use Rattle.vetting.proofs.VerdictLaws.{columns-zero, column-first, zeros-next}
-use Rattle.vetting.proofs.verdict.check_columns.Statement.{statement}
-use Rattle.vetting.proofs.verdict.check_columns.Tie as tie
+use Rattle.vetting.proofs.VetLaws.{columns-zero, column-first, zeros-next}
+use Rattle.vetting.proofs.checks.check_columns.Statement.{statement}
+use Rattle.vetting.proofs.checks.check_columns.Tie as tie
 
 abbrev Inv-loop : tie.InvT-loop
 Inv-loop plan table rate users k₀ k = (k ≤ rate) × ((j : ℕ) → j < k → columnSum (poolOf plan table) j ≡ 0)
@@ -54,8 +54,11 @@ loop-again : tie.Need-loop-again Inv-loop μ-loop
 unfolding columnSum
 loop-again c =
     let s = c .before .before .before .loop in
-    let a = c .before .before .before .before .before .before .args in
-    (omega (arith, c .before .before .loop-test .taken), zeros-next (a .plan) (a .table .now) (s .k) (s .inv .1) (sym (c .before .column-sum .ensures) ∙ c .if1 .left))
+    let a = c .before .before .before .before .before .before .args in (
+      omega (arith, c .before .before .loop-test .taken),
+      zeros-next (a .plan) (a .table .now) (s .k) (s .inv .1)
+          (sym (c .before .column-sum .ensures) ∙ c .if1 .left),
+    )
 
 returns-2 : tie.Need-returns-2 Inv-loop μ-loop
 returns-2 c =

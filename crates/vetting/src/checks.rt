@@ -5,7 +5,7 @@ ghost use mathlib.Core.Bool.{true};
 ghost use lib.ListN.{length};
 ghost use Rattle.refusals.specs.Codes.{firstOf, verdictCode};
 ghost use Rattle.plans.specs.Plans.{usersOf, inBounds};
-ghost use Rattle.vetting.specs.Verdict.{otherChecks, verdict, columnChecks};
+ghost use Rattle.vetting.specs.Vet.{otherChecks, vetCode, columnChecks};
 use crate::Found;
 use crate::walk::column_sum;
 use crate::walk::find_leak;
@@ -48,7 +48,7 @@ fn check_table(plan: Plan, table: &[Symbol]) -> Verdict
 // Whether a plan with this key table keeps readings secret from every observer and every coalition of at most T users: the first pair that leaks
 // is named. Where the plan or the table is no good the walk never starts.
 pub fn vet(plan: Plan, table: &[Symbol]) -> Verdict
-    ensures { λ r. ⌜ verdictCode r ≡ verdict plan (now (table .entry)) ⌝ }
+    ensures { λ r. ⌜ verdictCode r ≡ vetCode plan (now (table .entry)) ⌝ }
 {
     let verdict = check_table(plan, table);
     if !verdict.is_accepted() {

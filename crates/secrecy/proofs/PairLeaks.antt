@@ -15,13 +15,13 @@ use Rattle.matrices.proofs.Notions.{Independent}
 use Rattle.matrices.specs.Rank.{rankOver, rankOf}
 use Rattle.matrices.proofs.RankLaws.{rank-append, full-rank-iff}
 use Rattle.secrecy.specs.Model.{Pool, users, inCluster, view, ZeroSum}
-use Rattle.secrecy.specs.Leaks.{number, leaks, Symbols, Leak, Agrees, PairLeak}
+use Rattle.secrecy.specs.Leaks.{keysShowing, leaks, Symbols, Leak, Agrees, PairLeak, longest}
 use Rattle.secrecy.proofs.Readings.{Enough, symbols-enough, small-enough}
 use Rattle.secrecy.proofs.Relays.{set-keeps, set-either}
 use Rattle.secrecy.proofs.Server.{server-keeps, server-either}
 use Rattle.secrecy.proofs.LeakTest.{search-iff}
 pub use Rattle.secrecy.proofs.Readings.{Small}
-pub use Rattle.secrecy.proofs.RankCondition.{row, sumRow, coalitionRows, outside, opened, tested, watchedRows}
+pub use Rattle.secrecy.proofs.RankCondition.{row, sumRow, coalitionRows, outside, hasOutsider, tested, watchedRows}
 pub use Rattle.secrecy.proofs.RankCondition.{row-vector, sum-row-vector, coalition-vectors, watched-vectors}
 
 -- one or the other, and not both
@@ -89,11 +89,11 @@ module _ (P : Pool) (prime : Prime (P .q)) (valid : Vector (P .q) (users P * P .
   -- ---- what it means
 
   -- a pair that does not leak has equal numbers, for all readings that agree and every view
-  pub equal-numbers : (g w : ℕ) → ¬ (PairLeak P g w) → (L : ℕ) → 1 ≤ L → L ≤ 64
+  pub equal-numbers : (g w : ℕ) → ¬ (PairLeak P g w) → (L : ℕ) → 1 ≤ L → L ≤ longest
       → (W W′ : List ℕ) → Symbols (P .q) (users P) L W → Symbols (P .q) (users P) L W′ → Agrees P g w L W W′
-      → (s : List ℕ) → number (P .q) (P .rate) (view P g w) L W s ≡ number (P .q) (P .rate) (view P g w) L W′ s
+      → (s : List ℕ) → keysShowing (P .q) (P .rate) (view P g w) L W s ≡ keysShowing (P .q) (P .rate) (view P g w) L W′ s
   equal-numbers g w quiet L low high W W′ v v′ a s =
-      Dec·not-not (ℕ-discrete (number (P .q) (P .rate) (view P g w) L W s) (number (P .q) (P .rate) (view P g w) L W′ s)) .0
+      Dec·not-not (ℕ-discrete (keysShowing (P .q) (P .rate) (view P g w) L W s) (keysShowing (P .q) (P .rate) (view P g w) L W′ s)) .0
       (λ n. quiet (record { L = L; low = low; high = high; W = W; W′ = W′; W-in = v; W′-in = v′; same = a; s = s; unequal = n }))
 
   -- a pair that leaks does so in one position, with no other readings than 0, 1 and q - 1
