@@ -13,8 +13,7 @@ use Rattle.refusals.proofs.CodeLaws.{none-holds, accepted-takes}
 use Rattle.residues.specs.Primes.{allBelow}
 use Rattle.lists.proofs.Searches.{true→T, T-and}
 use Rattle.lists.specs.Lists.{at, tab, joinTo}
-use Rattle.lists.specs.Sums.{sumTo}
-use Rattle.secrecy.specs.Model.{key}
+use Rattle.secrecy.specs.Model.{sumSoFar, key}
 use Rattle.lists.proofs.Sums.{sum-cong}
 use Rattle.lists.proofs.ListLaws.{at-tab, length-tab, tab-cong}
 use Rattle.plans.specs.declared.Plan.{Plan}
@@ -31,7 +30,7 @@ use Rattle.lists.proofs.Joins.{length-join, join-part}
 
 -- the key of user i in position p, by a table K of rows of R symbols and a source key N
 abbrev pub keySum : (q R : ℕ) (K N : List ℕ) → ℕ → ℕ → ℕ
-keySum q R K N i p = sumTo R (λ k. at K (i * R + k) * at N (p * R + k)) % q
+keySum q R K N i p = sumSoFar q (λ k. at K (i * R + k)) (λ k. at N (p * R + k)) R
 
 -- the keys of n users
 abbrev pub keyRows : (q n R L : ℕ) (K N : List ℕ) → List ℕ
@@ -52,13 +51,13 @@ module _ (q n R L : ℕ) (K N : List ℕ) where
   -- what user i's row alone makes of N, w symbols of K, is the part of the keys that is lent for it, v symbols of T
   pub keys-of-row : (T : List ℕ) (i w v : ℕ) → w ≡ R → v ≡ L → i < n → i * R + R ≤ length K → i * L + L ≤ length T
       → (let row : List ℕ = take w (drop (i * R) K) in
-      tab (length (take v (drop (i * L) T))) (λ p. sumTo (length row) (λ k. at row k * at N (p * length row + k)) % q) ≡ take v
+      tab (length (take v (drop (i * L) T))) (λ p. sumSoFar q (at row) (λ k. at N (p * length row + k)) (length row)) ≡ take v
       (drop (i * L) (keyRows q n R L K N)))
   keys-of-row T i w v ew ev h k l =
       let row : List ℕ = take w (drop (i * R) K) in
       let size : length row ≡ R = length-part w (i * R) K (omega arith) ∙ ew in
       let lent : length (take v (drop (i * L) T)) ≡ L = length-part v (i * L) T (omega arith) ∙ ev in
-      ap₂ (λ (m r : ℕ). tab m (λ p. sumTo r (λ k. at row k * at N (p * r + k)) % q)) lent size
+      ap₂ (λ (m r : ℕ). tab m (λ p. sumSoFar q (at row) (λ k. at N (p * r + k)) r)) lent size
       ∙ tab-cong L _ (keySum q R K N i)
       (λ p _.
       ap (λ (t : ℕ). t % q)

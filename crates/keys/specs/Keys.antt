@@ -8,15 +8,15 @@ use Rattle.refusals.specs.declared.Code.{Code}
 use Rattle.refusals.specs.Codes.{code, firstOf, ifAccepted}
 use Rattle.residues.specs.Primes.{allBelow}
 use Rattle.lists.specs.Lists.{tab, joinTo}
-use Rattle.secrecy.specs.Model.{key}
+use Rattle.secrecy.specs.Model.{keySoFar}
 use Rattle.plans.specs.declared.Plan.{Plan}
 use Rattle.plans.specs.Plans.{usersOf, lengthFits}
 use Rattle.vetting.specs.Pools.{poolOf}
 use Rattle.vetting.specs.Vet.{vetChecks}
 
--- user by user, L symbols each
+-- user by user, L symbols each: equation (22)'s sum of each position after all R products
 unfoldable pub keysOf : Plan → List ℕ → ℕ → List ℕ → List ℕ
-keysOf P K L N = joinTo (usersOf P) (λ i. tab L (key (poolOf P K) N i))
+keysOf P K L N = joinTo (usersOf P) (λ i. tab L (λ p. keySoFar (poolOf P K) N i p (P .rate)))
 
 -- the source key has L × R symbols, and the lent keys are U × V × L symbols
 abbrev pub keyChecks : Plan → List ℕ → ℕ → List ℕ → List ℕ → List (Bool × Code)

@@ -1,10 +1,10 @@
 // Individual keys: each user's symbols, from its row of the key table and a source key.
 ghost use mathlib.Core.Path.{_≡_};
-ghost use Prim.Native.Nat.{_+_, _*_, _%_, _<_, _≤_};
+ghost use Prim.Native.Nat.{_+_, _*_, _<_, _≤_};
 ghost use lib.ListN.{length};
 ghost use Rattle.refusals.specs.Codes.{verdictCode};
 ghost use Rattle.lists.specs.Lists.{at, tab};
-ghost use Rattle.lists.specs.Sums.{sumTo};
+ghost use Rattle.secrecy.specs.Model.{sumSoFar};
 ghost use Rattle.plans.specs.Plans.{usersOf};
 ghost use Rattle.keys.specs.Keys.{keysOf, keyCode, keysAfter};
 use arithmetic::Symbol;
@@ -14,15 +14,24 @@ use refusals::Refusal;
 use refusals::Verdict;
 use vetting::vet;
 
-// The products of a row with the source symbols of one position, from the first to the last; the sum so far is kept modulo q.
+// One product more: from the sum after k products to that after k + 1.
+fn add_product(q: Symbol, row: &[Symbol], symbols: &[Symbol], k: usize, sum: Symbol) -> Symbol
+    requires { ⌜ (0 < q) × (sum ≡ sumSoFar q (at (now row)) (at (now symbols)) k) × (length (now row) ≡ length (now symbols))
+        × (k < length (now row)) ⌝ }
+    ensures { λ r. ⌜ r ≡ sumSoFar q (at (now (row .entry))) (at (now (symbols .entry))) (k + 1) ⌝ }
+{
+    arithmetic::mul_add_mod(q, sum, row[k], symbols[k])
+}
+
+// The products of a row with the source symbols of one position, from the first to the last. What is held is always the sum so far.
 fn key_symbol(q: Symbol, row: &[Symbol], symbols: &[Symbol]) -> Symbol
     requires { ⌜ (0 < q) × (length (now row) ≡ length (now symbols)) ⌝ }
-    ensures { λ r. ⌜ r ≡ sumTo (length (now (row .entry))) (λ k. at (now (row .entry)) k * at (now (symbols .entry)) k) % q ⌝ }
+    ensures { λ r. ⌜ r ≡ sumSoFar q (at (now (row .entry))) (at (now (symbols .entry))) (length (now (row .entry))) ⌝ }
 {
     let mut sum: Symbol = 0;
     let mut k = 0;
     while k < row.len() {
-        sum = arithmetic::mul_add_mod(q, sum, row[k], symbols[k]);
+        sum = add_product(q, row, symbols, k, sum);
         k += 1;
     }
     sum
@@ -33,7 +42,7 @@ fn user_keys(q: Symbol, row: &[Symbol], source: &[Symbol], keys: &mut [Symbol])
     requires { ⌜ (0 < q) × (length (now source) ≡ length (now keys) * length (now row)) ⌝ }
     ensures { λ _. ⌜ now (keys .exit)
         ≡ tab (length (now (keys .entry)))
-        (λ p. sumTo (length (now (row .entry))) (λ k. at (now (row .entry)) k * at (now (source .entry)) (p * length (now (row .entry)) + k)) % q) ⌝ }
+        (λ p. sumSoFar q (at (now (row .entry))) (λ k. at (now (source .entry)) (p * length (now (row .entry)) + k)) (length (now (row .entry)))) ⌝ }
 {
     let rate = row.len();
     let mut p = 0;

@@ -26,6 +26,10 @@ inCoalition g i = hasBit g i
 unfoldable pub reading : ℕ → List ℕ → ℕ → ℕ → ℕ
 reading L W i p = at W (i * L + p)
 
+-- a row times symbols, the sum so far: the first k products, from the first on, modulo q
+abbrev pub sumSoFar : ℕ → (ℕ → ℕ) → (ℕ → ℕ) → ℕ → ℕ
+sumSoFar q row symbols k = sumTo k (λ j. row j * symbols j) % q
+
 module _ (P : Pool) where
   abbrev pub users : ℕ
   users = P .clusters * P .size
@@ -43,9 +47,13 @@ module _ (P : Pool) where
 
   -- ---- what is sent
 
-  -- (22): the key of user i in position p is its row times the symbols of that position in the source key N
+  -- (22), the sum so far: user i's row times the symbols of position p in the source key N, after k products
+  abbrev pub keySoFar : List ℕ → ℕ → ℕ → ℕ → ℕ
+  keySoFar N i p k = sumSoFar (P .q) (λ j. at (P .table) (i * P .rate + j)) (λ j. at N (p * P .rate + j)) k
+
+  -- (22): the key of user i in position p is that sum after all the products
   unfoldable pub key : List ℕ → ℕ → ℕ → ℕ
-  key N i p = sumTo (P .rate) (λ k. at (P .table) (i * P .rate + k) * at N (p * P .rate + k)) % P .q
+  key N i p = keySoFar N i p (P .rate)
 
   -- (25)
   unfoldable pub upload : ℕ → List ℕ → List ℕ → ℕ → ℕ → ℕ

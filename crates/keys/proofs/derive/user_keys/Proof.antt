@@ -6,7 +6,7 @@ use native.Mathlib.Nat.{le-add-right, add-sub-cancel-left}
 use native.Mathlib.Omega.{arith}
 use lib.ListN.{length}
 use Rattle.lists.specs.Lists.{at}
-use Rattle.lists.specs.Sums.{sumTo}
+use Rattle.secrecy.specs.Model.{sumSoFar}
 use Rattle.lists.proofs.Sums.{sum-cong}
 use Rattle.lists.proofs.Filling.{Filling, filling-none, filling-next, filling-less, filling-whole}
 use Rattle.lists.proofs.Fronts.{row-fits, length-part, part-at}
@@ -15,7 +15,7 @@ use Rattle.keys.proofs.derive.user_keys.Tie as tie
 
 -- the key of a position
 abbrev products : ℕ → List ℕ → List ℕ → ℕ → ℕ
-products q row source p = sumTo (length row) (λ k. at row k * at source (p * length row + k)) % q
+products q row source p = sumSoFar q (at row) (λ k. at source (p * length row + k)) (length row)
 
 abbrev Inv-loop : tie.InvT-loop
 Inv-loop q row source keys₀ rate p₀ keys p = Filling (products q row source) keys₀ keys p
