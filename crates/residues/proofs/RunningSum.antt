@@ -12,11 +12,11 @@ module _ (q : ℕ) (f : ℕ → ℕ) where
   unfolding sumTo
   kept-none = sym (zero-mod q)
 
+  -- what is kept, with the next summand added
+  pub kept-added : (k : ℕ) → (sumTo k f % q + f k) % q ≡ sumTo (k + 1) f % q
+  unfolding sumTo
+  kept-added k = to-mod (c-add (of-rem q (sumTo k f)) c-refl) ∙ ap (λ (n : ℕ). sumTo n f % q) (sym (add-one k))
+
   -- s is what is kept of the first k, and x the next
   pub kept-next : (k s x : ℕ) → 0 < q → s ≡ sumTo k f % q → x ≡ f k → residue q (s + x) ≡ sumTo (k + 1) f % q
-  unfolding sumTo
-  kept-next k s x h e p =
-      residue-mod q (s + x) h
-      ∙ ap₂ (λ (a b : ℕ). (a + b) % q) e p
-      ∙ to-mod (c-add (of-rem q (sumTo k f)) c-refl)
-      ∙ ap (λ (n : ℕ). sumTo n f % q) (sym (add-one k))
+  kept-next k s x h e p = residue-mod q (s + x) h ∙ ap₂ (λ (a b : ℕ). (a + b) % q) e p ∙ kept-added k
