@@ -212,7 +212,7 @@ mask-below b (suc k) = go (b k) (mask-below b k)
     go false h = omega (arith, pow-suc 2 k)
 
 -- the bits of a number, and one more on top
-low-bit : (n k i : ℕ) → i < k → (t : Bool) → hasBit (n + cond t (2 ^ k) 0) i ≡ hasBit n i
+pub low-bit : (n k i : ℕ) → i < k → (t : Bool) → hasBit (n + cond t (2 ^ k) 0) i ≡ hasBit n i
 unfolding hasBit
 low-bit n k i h true =
     let d : k ≡ suc (k - suc i) + i = omega arith in
@@ -223,7 +223,7 @@ low-bit n k i h true =
     ap (λ (z : ℕ). eqb z 1) (ap (λ (z : ℕ). z % 2) e ∙ m)
 low-bit n k i h false = ap (λ (z : ℕ). hasBit z i) (add-zero n)
 
-top-bit : (n k : ℕ) → n < 2 ^ k → (t : Bool) → hasBit (n + cond t (2 ^ k) 0) k ≡ t
+pub top-bit : (n k : ℕ) → n < 2 ^ k → (t : Bool) → hasBit (n + cond t (2 ^ k) 0) k ≡ t
 unfolding hasBit
 top-bit n k h true =
     let e : (n + 2 ^ k) / 2 ^ k ≡ 1

@@ -1,3 +1,4 @@
+pub mod Binomials
 pub mod BitLaws
 pub mod Filling
 pub mod Fronts

@@ -1,16 +1,17 @@
 -- Laws of lists made of their entries, and of lists that are picked.
-use Prim.Native.Nat.{ℕ, zero, suc, _+_, _-_, _*_, _<_, suc-le-suc}
+use Prim.Native.Nat.{ℕ, zero, suc, _+_, _≤_, _<_, suc-le-suc}
 use mathlib.Core.Path.{_≡_, refl, sym, ap, ap₂, _∙_, subst}
 use mathlib.Core.Bool.{Bool, true, false, cond}
 use mathlib.Core.Logic.{⊎-elim}
 use mathlib.Core.List.{List, [], _∷_, _++_, map, map-append, head-eq-of-cons-eq, tail-eq-of-cons-eq}
-use native.Mathlib.Nat.{zero-add, suc-add, suc-ne-zero, suc-inj, not-suc-le-zero, le-of-suc-le-suc, lt-suc-self, zero-lt-suc, eq-or-lt-of-le}
+use native.Mathlib.Nat.{zero-add, suc-add, mul-one, suc-ne-zero, suc-inj, not-suc-le-zero, le-of-suc-le-suc, lt-suc-self, zero-lt-suc, eq-or-lt-of-le}
 use native.Mathlib.Omega.{arith}
-use lib.ListN.{length, length-append, length-replicate}
+use lib.ListN.{length, length-replicate}
 use lib.Seq.{ext-getD}
 use lib.Dec.{T}
 use Rattle.lists.specs.Lists.{at, All, tab, joinTo, picked, zeros}
 use Rattle.lists.proofs.Members.{all-append, all-left, all-right}
+use Rattle.lists.proofs.Joins.{length-lists}
 use Rattle.lists.specs.Sums.{sumTo, howMany}
 
 -- ---- a list by its entries
@@ -95,20 +96,23 @@ module _ {A : Type 0} (Q : A → Type 0) where
 
 -- how many are picked
 pub length-picked : {A : Type 0} (n : ℕ) (b : ℕ → Bool) (f : ℕ → A) → length (picked n b (λ i. f i ∷ [])) ≡ howMany n b
-unfolding picked joinTo howMany sumTo
-length-picked zero b f = refl
-length-picked (suc n) b f =
-    length-append (picked n b (λ i. f i ∷ [])) (cond (b n) (f n ∷ []) []) ∙ ap₂ _+_ (length-picked n b f) (one (b n))
-  where
-    one : (c : Bool) → length (cond c (f n ∷ []) []) ≡ cond c 1 0
-    one true = refl
-    one false = refl
+length-picked n b f = length-lists n 1 b (λ i. f i ∷ []) (λ i. refl) ∙ mul-one (howMany n b)
 
 -- all of them
 pub many-all : (n : ℕ) → howMany n (λ _. true) ≡ n
 unfolding howMany sumTo
 many-all zero = refl
 many-all (suc n) = omega (arith, many-all n)
+
+-- at most all of them
+pub many-most : (b : ℕ → Bool) (n : ℕ) → howMany n b ≤ n
+unfolding howMany sumTo
+many-most b zero = omega arith
+many-most b (suc n) = go (b n) (many-most b n)
+  where
+    go : (t : Bool) → howMany n b ≤ n → howMany n b + cond t 1 0 ≤ suc n
+    go true h = omega arith
+    go false h = omega arith
 
 -- a function of each that is picked
 pub map-picked : {A B : Type 0} (n : ℕ) (b : ℕ → Bool) (h : A → B) (f : ℕ → A) → map h (picked n b (λ i. f i ∷ [])) ≡ picked n b (λ i. h (f i) ∷ [])

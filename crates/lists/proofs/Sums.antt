@@ -30,7 +30,7 @@ sum-le (suc n) f k h =
     (eq-or-lt-of-le (le-of-suc-le-suc h))
 
 -- the first a summands, and the b after them
-sum-split : (a b : ℕ) (f : ℕ → ℕ) → sumTo (a + b) f ≡ sumTo a f + sumTo b (λ k. f (a + k))
+pub sum-split : (a b : ℕ) (f : ℕ → ℕ) → sumTo (a + b) f ≡ sumTo a f + sumTo b (λ k. f (a + k))
 unfolding sumTo
 sum-split a zero f = simp add-zero
 sum-split a (suc b) f = rw add-suc (ap (λ (s : ℕ). s + f (a + b)) (sum-split a b f) ∙ add-assoc (sumTo a f) (sumTo b (λ k. f (a + k))) (f (a + b)))

@@ -11,3 +11,9 @@ sumTo (suc n) f = sumTo n f + f n
 unfoldable pub howMany : ℕ → (ℕ → Bool) → ℕ
 unfolding sumTo
 howMany n b = sumTo n (λ i. cond (b i) 1 0)
+
+-- how many sets of k there are out of n
+unfoldable pub binomial : ℕ → ℕ → ℕ
+binomial n zero = 1
+binomial zero (suc k) = 0
+binomial (suc n) (suc k) = binomial n k + binomial n (suc k)

@@ -15,6 +15,7 @@ use Rattle.refusals.specs.Codes.{accepted}
 use Rattle.plans.specs.declared.Plan.{Plan}
 use Rattle.vetting.specs.declared.Pair.{Pair}
 use Rattle.vetting.specs.declared.Found.{Found}
+use Rattle.vetting.specs.declared.Walked.{Walked}
 use Rattle.vetting.specs.declared.Found.the-variants.{At, Nothing}
 use Rattle.plans.specs.Plans.{usersOf}
 use Rattle.vetting.specs.Walk.{pairs}
@@ -105,12 +106,17 @@ abbrev pub hit : Plan → List ℕ → ℕ → ℕ → Bool
 hit P T g w =
     dependent (P .q) (rowsIn P) (P .rate) (watchMask (P .clusters) (P .size) g w) g (tableOf (P .q) (rowsIn P) (P .rate) T g)
 
-unfoldable pub firstHit : (ℕ → ℕ → Bool) → List Pair → Found
-firstHit f [] = Nothing
-firstHit f (p ∷ l) = cond (f (p .coalition) (p .observer)) (At p) (firstHit f l)
+-- what a walk found, and how many pairs it looked at
+abbrev pub walk : Found → ℕ → Walked
+walk found looked = record { found = found; looked = looked }
 
-abbrev pub walked : Plan → List ℕ → Found
-walked P T = firstHit (hit P T) (pairs (P .clusters) (P .size) (P .limit))
+-- the first hit of a list, n pairs after the walk began
+unfoldable pub firstHit : (ℕ → ℕ → Bool) → ℕ → List Pair → Walked
+firstHit f n [] = walk Nothing n
+firstHit f n (p ∷ l) = cond (f (p .coalition) (p .observer)) (walk (At p) (n + 1)) (firstHit f (n + 1) l)
+
+abbrev pub walked : Plan → List ℕ → Walked
+walked P T = firstHit (hit P T) 0 (pairs (P .clusters) (P .size) (P .limit))
 
 -- the code of what the walk finds
 abbrev pub foundCode : Found → Code
