@@ -5,6 +5,7 @@ use mathlib.Core.Bool.{Bool, true, false, cond}
 use mathlib.Core.List.{List, [], _∷_, map}
 use Prim.Native.Nat.{ℕ, zero, suc, _+_, _*_, _^_, _≤_, _<_}
 use native.Mathlib.Decide.{decLt}
+use native.Mathlib.Nat.{add-zero, zero-add}
 use native.Mathlib.Omega.{arith}
 use lib.Dec.{T}
 use lib.ListN.{length}
@@ -29,7 +30,8 @@ use Rattle.plans.specs.Plans.{usersOf, inBounds}
 use Rattle.vetting.specs.Pools.{poolOf}
 use Rattle.vetting.specs.Walk.{pairs, InWalk}
 use Rattle.vetting.specs.Vet.{leakCheck}
-use Rattle.vetting.specs.Walking.{baseTable, rowsIn, watchMask, hit, firstHit, walked, foundCode}
+use Rattle.vetting.specs.Length.{placeIn}
+use Rattle.vetting.specs.Walking.{baseTable, rowsIn, watchMask, hit, walk, firstHit, walked, foundCode}
 use Rattle.lists.proofs.BitLaws.{bit-above}
 use Rattle.plans.proofs.PlanBounds.{Bounds, bounds-known}
 use Rattle.vetting.proofs.PairLists.{pairs-in}
@@ -41,18 +43,35 @@ use Rattle.vetting.proofs.BaseRows.{base-row, base-sum, base-table}
 -- a walk with the test of leaking finds what the order of refusals names
 first-leak : (P : Plan) (K : List ℕ) (f : ℕ → ℕ → Bool) (l : List Pair)
     → All (λ p. f (p .coalition) (p .observer) ≡ leaks (poolOf P K) (p .coalition) (p .observer)) l
-    → foundCode (firstHit f l) ≡ firstOf (map (leakCheck P K) l)
+    → (n : ℕ) → foundCode (firstHit f n l .found) ≡ firstOf (map (leakCheck P K) l)
 unfolding firstHit
-first-leak P K f [] h = refl
-first-leak P K f (p ∷ l) h =
-    ap (λ (t : Bool). foundCode (cond t (At p) (firstHit f l))) (h .0)
-    ∙ go (leaks (poolOf P K) (p .coalition) (p .observer)) (first-leak P K f l (h .1))
+first-leak P K f [] h n = refl
+first-leak P K f (p ∷ l) h n =
+    ap (λ (t : Bool). foundCode (cond t (walk (At p) (n + 1)) (firstHit f (n + 1) l) .found)) (h .0)
+    ∙ go (leaks (poolOf P K) (p .coalition) (p .observer)) (first-leak P K f l (h .1) (n + 1))
   where
-    go : (t : Bool) → foundCode (firstHit f l) ≡ firstOf (map (leakCheck P K) l)
-        → foundCode (cond t (At p) (firstHit f l))
+    go : (t : Bool) → foundCode (firstHit f (n + 1) l .found) ≡ firstOf (map (leakCheck P K) l)
+        → foundCode (cond t (walk (At p) (n + 1)) (firstHit f (n + 1) l) .found)
         ≡ cond t (record { number = 7; first = p .coalition; second = p .observer }) (firstOf (map (leakCheck P K) l))
     go true ih = refl
     go false ih = ih
+
+-- and looks at the pairs up to its place
+first-place : (P : Plan) (K : List ℕ) (f : ℕ → ℕ → Bool) (l : List Pair)
+    → All (λ p. f (p .coalition) (p .observer) ≡ leaks (poolOf P K) (p .coalition) (p .observer)) l
+    → (n : ℕ) → firstHit f n l .looked ≡ n + placeIn (λ p. leaks (poolOf P K) (p .coalition) (p .observer)) l
+unfolding firstHit placeIn
+first-place P K f [] h n = sym (add-zero n)
+first-place P K f (p ∷ l) h n =
+    ap (λ (t : Bool). cond t (walk (At p) (n + 1)) (firstHit f (n + 1) l) .looked) (h .0)
+    ∙ go (leaks (poolOf P K) (p .coalition) (p .observer)) (first-place P K f l (h .1) (n + 1))
+  where
+    rest : ℕ
+    rest = placeIn (λ p. leaks (poolOf P K) (p .coalition) (p .observer)) l
+
+    go : (t : Bool) → firstHit f (n + 1) l .looked ≡ n + 1 + rest → cond t (walk (At p) (n + 1)) (firstHit f (n + 1) l) .looked ≡ n + cond t 1 (suc rest)
+    go true ih = refl
+    go false ih = ih ∙ omega arith
 
 -- ---- the test
 
@@ -114,10 +133,17 @@ module _ (P : Plan) (K : List ℕ) (bounds : inBounds P ≡ true) (sized : lengt
       = record { size = sized; small = λ i k. below-at (P .q) K (prime-pos prime) (true→T (allBelow (P .q) K) below) i } in
       decides P K (bounds-known P bounds) sized prime valid columns g low w h
 
-  pub found-verdict : foundCode (walked P (baseTable P K)) ≡ firstOf (map (leakCheck P K) (pairs (P .clusters) (P .size) (P .limit)))
-  found-verdict =
-      first-leak P K (hit P (baseTable P K)) (pairs (P .clusters) (P .size) (P .limit))
-      (all-map (λ x. InWalk P (x .coalition) (x .observer))
+  each-pair : All (λ x. hit P (baseTable P K) (x .coalition) (x .observer) ≡ leaks (poolOf P K) (x .coalition) (x .observer))
+      (pairs (P .clusters) (P .size) (P .limit))
+  each-pair =
+      all-map (λ x. InWalk P (x .coalition) (x .observer))
       (λ x. hit P (baseTable P K) (x .coalition) (x .observer) ≡ leaks (poolOf P K) (x .coalition) (x .observer))
       (λ x w. pair-verdict (x .coalition) (x .observer) (w .users) (w .observer))
-      (pairs (P .clusters) (P .size) (P .limit)) (pairs-in P))
+      (pairs (P .clusters) (P .size) (P .limit)) (pairs-in P)
+
+  pub found-verdict : foundCode (walked P (baseTable P K) .found) ≡ firstOf (map (leakCheck P K) (pairs (P .clusters) (P .size) (P .limit)))
+  found-verdict = first-leak P K (hit P (baseTable P K)) (pairs (P .clusters) (P .size) (P .limit)) each-pair 0
+
+  pub found-place : walked P (baseTable P K) .looked
+      ≡ placeIn (λ p. leaks (poolOf P K) (p .coalition) (p .observer)) (pairs (P .clusters) (P .size) (P .limit))
+  found-place = first-place P K (hit P (baseTable P K)) (pairs (P .clusters) (P .size) (P .limit)) each-pair 0 ∙ zero-add _

@@ -36,7 +36,7 @@ pub record Checked (P : Plan) (K : List ℕ) : Type 0 where
   pub valid : Vector (P .q) (usersOf P * P .rate) K
   pub zero-sum : ZeroSum (poolOf P K)
 
-other-numbered : (P : Plan) (K : List ℕ) → T (numbered (otherChecks P K))
+pub other-numbered : (P : Plan) (K : List ℕ) → T (numbered (otherChecks P K))
 other-numbered P K = columns-numbered P K (P .rate) (λ k. k)
 
 pub checked : (P : Plan) (K : List ℕ) → accepted ≡ firstOf (otherChecks P K) → Checked P K
@@ -54,10 +54,10 @@ abbrev leakCode : Pair → Code
 leakCode p = record { number = 7; first = p .coalition; second = p .observer }
 
 module _ (P : Plan) (K : List ℕ) where
-  abbrev TestLeaks : Pair → Type 0
+  abbrev pub TestLeaks : Pair → Type 0
   TestLeaks p = T (leaks (poolOf P K) (p .coalition) (p .observer))
 
-  search : (l : List Pair) → All (λ x. ¬ (TestLeaks x)) l ⊎ ((p : Pair) × First TestLeaks l p)
+  pub search : (l : List Pair) → All (λ x. ¬ (TestLeaks x)) l ⊎ ((p : Pair) × First TestLeaks l p)
   search [] = inl tt
   search (x ∷ l) = go (T-decide (leaks (poolOf P K) (x .coalition) (x .observer))) (search l)
     where
@@ -68,7 +68,7 @@ module _ (P : Plan) (K : List ℕ) where
       go (no n) (inr (p, f)) =
           inr (p, record { before = x ∷ f .before; after = f .after; split = ap (λ (y : List Pair). x ∷ y) (f .split); none = (n, f .none); here = f .here })
 
-  quiet-code : (l : List Pair) → All (λ x. ¬ (TestLeaks x)) l → firstOf (map (leakCheck P K) l) ≡ accepted
+  pub quiet-code : (l : List Pair) → All (λ x. ¬ (TestLeaks x)) l → firstOf (map (leakCheck P K) l) ≡ accepted
   quiet-code [] h = refl
   quiet-code (x ∷ l) h = rw (not-T→false (leaks (poolOf P K) (x .coalition) (x .observer)) (h .0)) (quiet-code l (h .1))
 
@@ -87,10 +87,10 @@ module _ (P : Plan) (K : List ℕ) where
   abbrev walk : List Pair
   walk = pairs (P .clusters) (P .size) (P .limit)
 
-  accepted-checked : accepted ≡ vetCode P K → accepted ≡ firstOf (otherChecks P K)
+  pub accepted-checked : accepted ≡ vetCode P K → accepted ≡ firstOf (otherChecks P K)
   accepted-checked e = first-accepts (otherChecks P K) (map (leakCheck P K) walk) (other-numbered P K) e
 
-  walk-decides : accepted ≡ firstOf (otherChecks P K) → firstOf (map (leakCheck P K) walk) ≡ vetCode P K
+  pub walk-decides : accepted ≡ firstOf (otherChecks P K) → firstOf (map (leakCheck P K) walk) ≡ vetCode P K
   walk-decides o = rest-decides (otherChecks P K) (map (leakCheck P K) walk) (other-numbered P K) o
 
   -- an accepted plan: no pair leaks
@@ -122,7 +122,7 @@ module _ (P : Plan) (K : List ℕ) where
     c : Checked P K
     c = checked P K others
 
-    found-iff : (p : Pair) → TestLeaks P K p ↔ LeaksTo p
+    pub found-iff : (p : Pair) → TestLeaks P K p ↔ LeaksTo p
     found-iff p = leaks-iff (poolOf P K) (c .prime) (c .valid) (p .coalition) (p .observer)
 
     -- the first pair that the search finds is the first that leaks
@@ -136,7 +136,7 @@ module _ (P : Plan) (K : List ℕ) where
           here = found-iff p .0 (f .here);
         }
 
-    named : (p : Pair) (before after : List Pair) → walk ≡ before ++ (p ∷ after) → All (λ x. ¬ (TestLeaks P K x)) before → TestLeaks P K p → vetCode P K
+    pub named : (p : Pair) (before after : List Pair) → walk ≡ before ++ (p ∷ after) → All (λ x. ¬ (TestLeaks P K x)) before → TestLeaks P K p → vetCode P K
         ≡ leakCode p
     named p before after s n h =
         sym (walk-decides others) ∙ ap (λ (l : List Pair). firstOf (map (leakCheck P K) l)) s ∙ first-code P K before after p n h

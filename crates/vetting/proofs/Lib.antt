@@ -5,11 +5,12 @@ mod GatherLaws
 mod WalkLaws
 mod BaseLaws
 pub mod VetLaws
-mod PairLists
+pub mod PairLists
 mod PickedLaws
 mod ReducedTables
 mod WatchLaws
 mod BaseRows
 mod Deciding
 pub mod ExactSecrecy
+pub mod Looking
 pub mod PlanLaws

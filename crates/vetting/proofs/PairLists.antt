@@ -1,22 +1,27 @@
--- The pairs of the walk are all coalitions of at most as many users as the limit says, each with all observers, and nothing else.
-use mathlib.Core.Path.{sym, subst}
+-- The pairs of the walk are all coalitions of at most as many users as the limit says, each with all observers, and nothing else; and how many they are.
+use mathlib.Core.Path.{_≡_, sym, ap, _∙_, subst}
 use mathlib.Core.Logic.{⊎-elim}
 use mathlib.Core.Bool.{Bool, true, false, cond}
 use mathlib.Core.List.{List, [], _∷_, _++_, map, map-append}
-use Prim.Native.Nat.{ℕ, zero, suc, _+_, _^_, _≤_, _<_}
-use native.Mathlib.Nat.{not-suc-le-zero, le-of-suc-le-suc, eq-or-lt-of-le}
+use Prim.Native.Nat.{ℕ, zero, suc, _+_, _*_, _^_, _≤_, _<_}
+use native.Mathlib.Nat.{mul-comm, not-suc-le-zero, le-of-suc-le-suc, eq-or-lt-of-le}
 use native.Mathlib.Omega.{arith}
 use lib.Dec.{T, leb, leb→le}
+use lib.ListN.{length, length-append, length-map}
 use borrow.Author.Tests.{le-leb}
 use Rattle.lists.proofs.Searches.{true→T}
 use Rattle.lists.specs.Lists.{All, tab, joinTo, picked}
+use Rattle.lists.proofs.Binomials.{sets-count}
+use Rattle.lists.proofs.Joins.{length-lists}
+use Rattle.lists.proofs.ListLaws.{length-tab}
 use Rattle.lists.proofs.Members.{all-append, all-left, all-right}
-use Rattle.lists.specs.Sums.{howMany}
+use Rattle.lists.specs.Sums.{sumTo, howMany, binomial}
 use Rattle.secrecy.specs.Model.{inCoalition}
 use Rattle.plans.specs.declared.Plan.{Plan}
 use Rattle.vetting.specs.declared.Pair.{Pair}
 use Rattle.plans.specs.Plans.{usersOf}
 use Rattle.vetting.specs.Walk.{observers, pairs, InWalk}
+use Rattle.vetting.specs.Length.{pairCount}
 
 module _ {A : Type 0} (Q : A → Type 0) where
   all-tab : (n : ℕ) (f : ℕ → ℕ) (h : ℕ → A) → ((k : ℕ) → k < n → Q (h (f k))) → All Q (map h (tab n f))
@@ -53,10 +58,25 @@ module _ {A : Type 0} (Q : A → Type 0) where
       go true a s = a
       go false a s = absurd s
 
-module _ (P : Plan) where
-  abbrev pairOf : ℕ → ℕ → Pair
-  pairOf g w = record { coalition = g; observer = w }
+abbrev pairOf : ℕ → ℕ → Pair
+pairOf g w = record { coalition = g; observer = w }
 
+-- each relay, and the server
+observers-length : (clusters : ℕ) → length (observers clusters) ≡ clusters + 1
+unfolding observers
+observers-length clusters = length-append (tab clusters suc) (0 ∷ []) ∙ ap (λ (z : ℕ). z + 1) (length-tab clusters suc)
+
+-- how many pairs there are
+pub pairs-length : (clusters size limit : ℕ) → length (pairs clusters size limit) ≡ pairCount clusters size limit
+unfolding pairs pairCount
+pairs-length clusters size limit =
+    let n : ℕ = clusters * size in
+    length-lists (2 ^ n) (clusters + 1) (λ g. leb (howMany n (inCoalition g)) limit) (λ g. map (pairOf g) (observers clusters))
+    (λ g. length-map (observers clusters) (pairOf g) ∙ observers-length clusters)
+    ∙ ap (λ (z : ℕ). z * (clusters + 1)) (sets-count n limit)
+    ∙ mul-comm (sumTo (limit + 1) (binomial n)) (clusters + 1)
+
+module _ (P : Plan) where
   abbrev within : ℕ → Bool
   within g = leb (howMany (usersOf P) (inCoalition g)) (P .limit)
 

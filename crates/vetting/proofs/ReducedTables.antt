@@ -22,9 +22,8 @@ use Rattle.matrices.proofs.RankLaws.{full-rank-iff, rank-larger-span, rank-at-m
 use Rattle.matrices.proofs.Elimination.{Table, Reduced, reduced-none, eliminated-table, eliminated-reduced, reduced-independent, pivots-are-rank, table-of}
 use Rattle.lists.specs.Sums.{howMany}
 use Rattle.secrecy.specs.Model.{inCoalition}
-use Rattle.lists.proofs.ListLaws.{all-picked, picked-all, length-picked, map-picked}
+use Rattle.lists.proofs.ListLaws.{all-picked, picked-all, length-picked, map-picked, many-most}
 use Rattle.vetting.specs.Walking.{membersFrom, reducedBy, tableOf, chosen, dependent}
-use Rattle.vetting.proofs.GatherLaws.{many-most}
 use Rattle.vetting.proofs.PickedLaws.{flat, flat-picked, length-flat, rows-flat, below-flat}
 
 -- ---- the members of a coalition

@@ -1,5 +1,5 @@
 -- The verdict from its parts: what is known of a plan and a table that passed, and the columns.
-use mathlib.Core.Path.{_≡_, refl, ap, _∙_}
+use mathlib.Core.Path.{_≡_, refl, sym, ap, _∙_}
 use mathlib.Core.List.{List, map}
 use mathlib.Core.Logic.{_≢_}
 use Prim.Native.Nat.{ℕ, zero, suc, _+_, _^_, _≤_, _<_, suc-le-suc}
@@ -10,7 +10,7 @@ use lib.Dec.{T, eqb}
 use borrow.Author.Tests.{not-false, eqb-true, eq-eqb, ne-eqb}
 use Rattle.secrecy.specs.Model.{columnSum, ZeroSum}
 use Rattle.refusals.specs.Codes.{accepted, firstOf}
-use Rattle.refusals.proofs.CodeLaws.{numbered, NoneHolds, none-holds}
+use Rattle.refusals.proofs.CodeLaws.{numbered, NoneHolds, none-holds, accepted-takes}
 use Rattle.lists.specs.Lists.{tab}
 use Rattle.secrecy.specs.Leaks.{leaks}
 use Rattle.plans.specs.declared.Plan.{Plan}
@@ -19,9 +19,10 @@ use Rattle.vetting.specs.Pools.{poolOf}
 use Rattle.plans.proofs.TableLaws.{Passed, table-passed}
 use Rattle.vetting.specs.Walk.{pairs}
 use Rattle.vetting.specs.Vet.{columnCheck, leakCheck, otherChecks, vetCode, columnChecks}
+use Rattle.vetting.specs.Length.{lookedAt}
 use Rattle.vetting.specs.Walking.{baseTable, hit, walked, foundCode}
 use Rattle.refusals.proofs.Orders.{rest-decides}
-use Rattle.vetting.proofs.Deciding.{pair-verdict, found-verdict}
+use Rattle.vetting.proofs.Deciding.{pair-verdict, found-verdict, found-place}
 
 -- ---- columns
 
@@ -77,7 +78,13 @@ module _ (P : Plan) (K : List ℕ) where
     walk-pair = pair-verdict P K (passed .bounds) (passed .size) (passed .prime) (passed .below) (columns-passed e)
 
     -- what the walk finds
-    pub walk-code : foundCode (walked P (baseTable P K)) ≡ vetCode P K
+    pub walk-code : foundCode (walked P (baseTable P K) .found) ≡ vetCode P K
     walk-code =
         found-verdict P K (passed .bounds) (passed .size) (passed .prime) (passed .below) (columns-passed e)
         ∙ rest-decides (otherChecks P K) (map (leakCheck P K) (pairs (P .clusters) (P .size) (P .limit))) all-numbered e
+
+    -- and how many pairs it looks at
+    pub walk-looked : walked P (baseTable P K) .looked ≡ lookedAt P K
+    walk-looked =
+        found-place P K (passed .bounds) (passed .size) (passed .prime) (passed .below) (columns-passed e)
+        ∙ sym (accepted-takes (firstOf (otherChecks P K)) _ 0 e)

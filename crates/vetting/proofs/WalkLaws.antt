@@ -22,7 +22,7 @@ use Rattle.lists.proofs.ListLaws.{tab-cong}
 use Rattle.vetting.specs.declared.Pair.{Pair}
 use Rattle.vetting.specs.declared.Found.the-variants.{At, Nothing}
 use Rattle.vetting.specs.Walk.{observers, pairs}
-use Rattle.vetting.specs.Walking.{levelAt, descended, reducedBy, tableOf, firstHit, levelSize, levelsSize, mostRows}
+use Rattle.vetting.specs.Walking.{levelAt, descended, reducedBy, tableOf, walk, firstHit, levelSize, levelsSize, mostRows}
 use Rattle.lists.proofs.BitLaws.{low-cleared, low-ones, cleared-fewer, cleared-next, ones-many}
 use Rattle.vetting.proofs.MemberLaws.{members-next, members-none}
 use Rattle.vetting.proofs.GatherLaws.{few-numbers}
@@ -224,17 +224,17 @@ pairs-are clusters size limit =
 -- ---- the first hit of what is left
 
 module _ (f : ℕ → ℕ → Bool) (g : ℕ) (R : List Pair) where
-  pub hit-first : (w : ℕ) (ws : List ℕ) → f g w ≡ true → firstHit f (map (pairOf g) (w ∷ ws) ++ R) ≡ At (pairOf g w)
+  pub hit-first : (n w : ℕ) (ws : List ℕ) → f g w ≡ true → firstHit f n (map (pairOf g) (w ∷ ws) ++ R) ≡ walk (At (pairOf g w)) (n + 1)
   unfolding firstHit
-  hit-first w ws e = rw e refl
+  hit-first n w ws e = rw e refl
 
-  pub miss-first : (w : ℕ) (ws : List ℕ) → f g w ≡ false → firstHit f (map (pairOf g) (w ∷ ws) ++ R) ≡ firstHit f (map (pairOf g) ws ++ R)
+  pub miss-first : (n w : ℕ) (ws : List ℕ) → f g w ≡ false → firstHit f n (map (pairOf g) (w ∷ ws) ++ R) ≡ firstHit f (n + 1) (map (pairOf g) ws ++ R)
   unfolding firstHit
-  miss-first w ws e = rw e refl
+  miss-first n w ws e = rw e refl
 
-pub hit-none : (f : ℕ → ℕ → Bool) → firstHit f [] ≡ Nothing
+pub hit-none : (f : ℕ → ℕ → Bool) (n : ℕ) → firstHit f n [] ≡ walk Nothing n
 unfolding firstHit
-hit-none f = refl
+hit-none f n = refl
 
 -- one observer more
 pub observers-next : (clusters w : ℕ) → w ≤ clusters + 1 → observersFrom clusters (clusters + 2 - w) w ≡ w % (clusters + 1) ∷ observersFrom clusters

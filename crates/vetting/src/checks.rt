@@ -3,10 +3,13 @@ ghost use mathlib.Core.Path.{_≡_};
 ghost use Prim.Native.Nat.{_*_, _<_};
 ghost use mathlib.Core.Bool.{true};
 ghost use lib.ListN.{length};
-ghost use Rattle.refusals.specs.Codes.{firstOf, verdictCode};
+ghost use Rattle.refusals.specs.Codes.{accepted, firstOf, verdictCode};
 ghost use Rattle.plans.specs.Plans.{usersOf, inBounds};
 ghost use Rattle.vetting.specs.Vet.{otherChecks, vetCode, columnChecks};
+ghost use Rattle.vetting.specs.Length.{lookedAt};
+ghost use Rattle.vetting.specs.Walking.{foundCode};
 use crate::Found;
+use crate::Report;
 use crate::walk::column_sum;
 use crate::walk::find_leak;
 use arithmetic::Symbol;
@@ -45,20 +48,50 @@ fn check_table(plan: Plan, table: &[Symbol]) -> Verdict
     check_columns(plan, table)
 }
 
-// Whether a plan with this key table keeps readings secret from every observer and every coalition of at most T users: the first pair that leaks
-// is named. Where the plan or the table is no good the walk never starts.
-pub fn vet(plan: Plan, table: &[Symbol]) -> Verdict
-    ensures { λ r. ⌜ verdictCode r ≡ vetCode plan (now (table .entry)) ⌝ }
+// The verdict of what the walk finds.
+fn told(found: Found) -> Verdict
+    ensures { λ r. ⌜ verdictCode r ≡ foundCode found ⌝ }
 {
-    let verdict = check_table(plan, table);
-    if !verdict.is_accepted() {
-        return verdict;
-    }
-    match find_leak(plan, table) {
+    match found {
         Found::At(pair) => Verdict::Refused(Refusal::Leaks {
             coalition: pair.coalition,
             observer: pair.observer,
         }),
-        Found::Nothing => verdict,
+        Found::Nothing => Verdict::Accepted,
     }
+}
+
+// What the walk says of a plan and a table that passed every other check.
+fn judge(plan: Plan, table: &[Symbol]) -> Report
+    requires { ⌜ accepted ≡ firstOf (otherChecks plan (now table)) ⌝ }
+    ensures code { λ r. ⌜ verdictCode (r .verdict) ≡ vetCode plan (now (table .entry)) ⌝ }
+    ensures looked { λ r. ⌜ r .looked ≡ lookedAt plan (now (table .entry)) ⌝ }
+{
+    let walked = find_leak(plan, table);
+    let found = walked.found;
+    Report {
+        verdict: told(found),
+        looked: walked.looked,
+    }
+}
+
+// Whether a plan with this key table keeps readings secret from every observer and every coalition of at most T users: the first pair that leaks
+// is named. Where the plan or the table is no good the walk never starts, and nothing was looked at.
+pub fn vet_counted(plan: Plan, table: &[Symbol]) -> Report
+    ensures code { λ r. ⌜ verdictCode (r .verdict) ≡ vetCode plan (now (table .entry)) ⌝ }
+    ensures looked { λ r. ⌜ r .looked ≡ lookedAt plan (now (table .entry)) ⌝ }
+{
+    let verdict = check_table(plan, table);
+    if verdict.is_accepted() {
+        return judge(plan, table);
+    }
+    Report { verdict, looked: 0 }
+}
+
+// The same without the count.
+pub fn vet(plan: Plan, table: &[Symbol]) -> Verdict
+    ensures { λ r. ⌜ verdictCode r ≡ vetCode plan (now (table .entry)) ⌝ }
+{
+    let report = vet_counted(plan, table);
+    report.verdict
 }

@@ -1,8 +1,13 @@
 // Vetting: the exact verdict on the secrecy of a plan.
 mod checks;
+mod length;
 mod walk;
 
 pub use checks::vet;
+pub use checks::vet_counted;
+pub use length::count_pairs;
+use refusals::Refusal;
+use refusals::Verdict;
 
 // A coalition, and an observer: relay 1 to U, or 0 for the server.
 pub struct Pair {
@@ -14,4 +19,22 @@ pub struct Pair {
 pub enum Found {
     At(Pair),
     Nothing,
+}
+
+// What it finds, and how many pairs it looked at.
+pub struct Walked {
+    pub found: Found,
+    pub looked: u32,
+}
+
+// The vet's verdict, and how many pairs it looked at: all of them, or up to the first that leaks; 0 where the walk did not start.
+pub struct Report {
+    pub verdict: Verdict,
+    pub looked: u32,
+}
+
+// How many pairs there are.
+pub enum PairCount {
+    Pairs(u32),
+    Refused(Refusal),
 }

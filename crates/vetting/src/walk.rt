@@ -14,6 +14,7 @@ ghost use Rattle.vetting.specs.Walking.{mostRows, levelsSize, chosen, cl
 ghost use Rattle.vetting.specs.Walking.{clusterSum, baseTable, levelAt, descended, dependent, walked};
 use crate::Found;
 use crate::Pair;
+use crate::Walked;
 use arithmetic::Symbol;
 use matrices::copy;
 use matrices::eliminate;
@@ -200,7 +201,7 @@ fn walk_levels(
     limit: usize,
     cols: usize,
     levels: &mut [Symbol],
-) -> Found
+) -> Walked
     requires { ⌜ (length (now levels) ≡ levelsSize) × (clusters ≤ 8) × (size ≤ 8) × (clusters * size ≤ 16) × (cols ≤ 16) ⌝ }
     ensures { λ r. ⌜ r ≡ walked (plan clusters size limit cols q) (take ((clusters * size + clusters) * cols) (now (levels .entry))) ⌝ }
 {
@@ -209,6 +210,7 @@ fn walk_levels(
     let last = clusters as u16 + 1;
     let top: u16 = ((1u32 << users as u32) - 1) as u16;
     let mut g: u16 = 0;
+    let mut looked: u32 = 0;
     'walk: loop {
         let k = u16::count_ones(g) as usize;
         if k <= limit {
@@ -219,17 +221,24 @@ fn walk_levels(
             let mut w: u16 = 1;
             while w <= last {
                 let observer = w % last;
+                looked += 1;
                 if leaks_to(q, clusters, size, cols, g, observer, levels) {
-                    break 'walk Found::At(Pair {
-                        coalition: g,
-                        observer,
-                    });
+                    break 'walk Walked {
+                        found: Found::At(Pair {
+                            coalition: g,
+                            observer,
+                        }),
+                        looked,
+                    };
                 }
                 w += 1;
             }
         }
         if g == top {
-            break 'walk Found::Nothing;
+            break 'walk Walked {
+                found: Found::Nothing,
+                looked,
+            };
         }
         g += 1;
     }
@@ -311,7 +320,7 @@ fn set_base(plan: Plan, table: &[Symbol], levels: &mut [Symbol])
 }
 
 // The first pair that leaks.
-pub(crate) fn find_leak(plan: Plan, table: &[Symbol]) -> Found
+pub(crate) fn find_leak(plan: Plan, table: &[Symbol]) -> Walked
     requires { ⌜ (inBounds plan ≡ true) × (length (now table) ≡ usersOf plan * plan .rate) × (0 < plan .q) ⌝ }
     ensures { λ r. ⌜ r ≡ walked plan (baseTable plan (now (table .entry))) ⌝ }
 {

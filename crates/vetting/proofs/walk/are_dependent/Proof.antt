@@ -7,7 +7,8 @@ use lib.Dec.{eqb}
 use lib.Seq.{length-take-le}
 use Rattle.matrices.specs.Tables.{pivotsFrom}
 use Rattle.vetting.specs.Walking.{chosen, dependent, levelSize}
-use Rattle.vetting.proofs.GatherLaws.{many-most, few-numbers}
+use Rattle.lists.proofs.ListLaws.{many-most}
+use Rattle.vetting.proofs.GatherLaws.{few-numbers}
 use borrow.Author.Needs.{needs}
 use Rattle.vetting.proofs.walk.are_dependent.Statement.{statement}
 use Rattle.vetting.proofs.walk.are_dependent.Tie as tie

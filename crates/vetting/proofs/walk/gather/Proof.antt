@@ -9,8 +9,9 @@ use lib.ListN.{length, take}
 use Rattle.matrices.specs.Tables.{rowOf}
 use Rattle.lists.specs.Lists.{picked}
 use Rattle.lists.specs.Sums.{howMany}
+use Rattle.lists.proofs.ListLaws.{many-most}
 use Rattle.vetting.specs.Walking.{chosen}
-use Rattle.vetting.proofs.GatherLaws.{many-none, many-most, picked-none, gather-taken, gather-passed, row-length, put-length, room}
+use Rattle.vetting.proofs.GatherLaws.{many-none, picked-none, gather-taken, gather-passed, row-length, put-length, room}
 use Rattle.vetting.proofs.walk.gather.Statement.{statement}
 use Rattle.vetting.proofs.walk.gather.Tie as tie
 

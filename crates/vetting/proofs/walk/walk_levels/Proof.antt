@@ -28,26 +28,32 @@ base clusters size cols L = take ((clusters * size + clusters) * cols) L
 abbrev rest : ℕ → ℕ → ℕ → ℕ → List Pair
 rest clusters size limit g = pairsFrom (clusters * size) limit clusters (2 ^ (clusters * size) - (g + 1)) (g + 1)
 
+-- no coalition has more observers
+abbrev mostObservers : ℕ
+mostObservers = 9
+
 abbrev Inv-loop : tie.InvT-loop
-Inv-loop q clusters size limit cols levels users rows last top g k w₀ w =
+Inv-loop q clusters size limit cols levels users rows last top g looked₀ k w₀ looked w =
     let T : List ℕ = base clusters size cols levels in
     (w ≤ clusters + 2)
-    × (firstHit (hit (plan clusters size limit cols q) T) (map (pairOf g) (observersFrom clusters (clusters + 2 - w) w) ++ rest clusters size limit g) ≡ walked
-    (plan clusters size limit cols q) T)
+    × (looked + 1 ≤ g * mostObservers + w)
+    × (firstHit (hit (plan clusters size limit cols q) T) looked
+    (map (pairOf g) (observersFrom clusters (clusters + 2 - w) w) ++ rest clusters size limit g) ≡ walked (plan clusters size limit cols q) T)
 
 abbrev μ-loop : tie.MeasureT-loop
-μ-loop q clusters size limit cols levels users rows last top g k w₀ w = clusters + 2 - w
+μ-loop q clusters size limit cols levels users rows last top g looked₀ k w₀ looked w = clusters + 2 - w
 
 abbrev Inv-walk : tie.InvT-walk
-Inv-walk q clusters size limit cols levels₀ users rows last top g₀ levels g =
+Inv-walk q clusters size limit cols levels₀ users rows last top g₀ looked₀ levels g looked =
     let T : List ℕ = base clusters size cols levels₀ in
     (g < 2 ^ (clusters * size))
     × Holds q (clusters * size + clusters) cols limit T levels g
-    × (firstHit (hit (plan clusters size limit cols q) T) (pairsFrom (clusters * size) limit clusters (2 ^ (clusters * size) - g) g) ≡ walked
-    (plan clusters size limit cols q) T)
+    × (looked ≤ g * mostObservers)
+    × (firstHit (hit (plan clusters size limit cols q) T) looked (pairsFrom (clusters * size) limit clusters (2 ^ (clusters * size) - g) g)
+    ≡ walked (plan clusters size limit cols q) T)
 
 abbrev μ-walk : tie.MeasureT-walk
-μ-walk q clusters size limit cols levels₀ users rows last top g₀ levels g = 2 ^ (clusters * size) - g
+μ-walk q clusters size limit cols levels₀ users rows last top g₀ looked₀ levels g looked = 2 ^ (clusters * size) - g
 
 -- the plan and the table that the call is about, and the pairs after a coalition
 abbrev planOf : tie.Start Inv-loop μ-loop Inv-walk μ-walk → Plan
@@ -73,13 +79,15 @@ rows-few s = omega (arith, s .pre .1, s .pre .3)
 -- the coalition in hand has its observers before it
 kept : (c : tie.Then1 Inv-loop μ-loop Inv-walk μ-walk)
     → (let g : ℕ = c .before .walk .g in let s₀ = c .before .before .before in let a = s₀ .args in
-    firstHit (hit (planOf s₀) (baseOf s₀)) (map (pairOf g) (observers (a .clusters)) ++ restOf s₀ g) ≡ walked (planOf s₀) (baseOf s₀))
+    firstHit (hit (planOf s₀) (baseOf s₀)) (c .before .walk .looked) (map (pairOf g) (observers (a .clusters)) ++ restOf s₀ g)
+    ≡ walked (planOf s₀) (baseOf s₀))
 kept c =
     let g : ℕ = c .before .walk .g in
     let s₀ = c .before .before .before in let a = s₀ .args in
     let i = c .before .walk .inv in
-    ap (firstHit (hit (planOf s₀) (baseOf s₀))) (sym (pairs-kept (a .clusters * a .size) (a .limit) (a .clusters) g (i .0) (omega (arith, c .if1 .taken))))
-    ∙ i .2
+    ap (firstHit (hit (planOf s₀) (baseOf s₀)) (c .before .walk .looked))
+    (sym (pairs-kept (a .clusters * a .size) (a .limit) (a .clusters) g (i .0) (omega (arith, c .if1 .taken))))
+    ∙ i .3
 
 -- each level up to that of g is right
 full : (c : tie.Joined2 Inv-loop μ-loop Inv-walk μ-walk)
@@ -141,7 +149,7 @@ joined c =
 -- the coalition is behind, or was none
 over : (c : tie.Joined1 Inv-loop μ-loop Inv-walk μ-walk)
     → (let g : ℕ = c .before .walk .g in let s₀ = c .before .before .before in let a = s₀ .args in
-    firstHit (hit (planOf s₀) (baseOf s₀)) (restOf s₀ g) ≡ walked (planOf s₀) (baseOf s₀))
+    firstHit (hit (planOf s₀) (baseOf s₀)) (c .if1 .looked) (restOf s₀ g) ≡ walked (planOf s₀) (baseOf s₀))
 over c =
     let s₀ = c .before .before .before in let a = s₀ .args in
     let g : ℕ = c .before .walk .g in
@@ -149,11 +157,24 @@ over c =
     let R : List Pair = restOf s₀ g in
     ⊎-elim
     (λ w.
-    subst (λ (X : List ℕ). firstHit (hit (planOf s₀) X) R ≡ walked (planOf s₀) X)
+    ap (λ (n : ℕ). firstHit (hit (planOf s₀) (baseOf s₀)) n R) (w .5)
+    ∙ subst (λ (X : List ℕ). firstHit (hit (planOf s₀) X) (w .2 .looked) R ≡ walked (planOf s₀) X)
     (full (record { before = record { before = c .before; if1 = w .0 }; if2 = w .1 }) .base)
-    (ap (λ (l : List ℕ). firstHit (hit (planOf s₀) (base (a .clusters) (a .size) (a .cols) (w .1 .levels))) (map (pairOf g) l ++ R))
-    (sym (observers-none (a .clusters) (w .2 .w) (w .3 .left))) ∙ w .2 .inv .1))
-    (λ w. ap (firstHit (hit (planOf s₀) (baseOf s₀))) (sym (pairs-skipped (a .clusters * a .size) (a .limit) (a .clusters) g (i .0) (w .0 .left))) ∙ i .2)
+    (ap (λ (l : List ℕ). firstHit (hit (planOf s₀) (base (a .clusters) (a .size) (a .cols) (w .1 .levels))) (w .2 .looked) (map (pairOf g) l ++ R))
+    (sym (observers-none (a .clusters) (w .2 .w) (w .3 .left))) ∙ w .2 .inv .2))
+    (λ w.
+    ap (λ (n : ℕ). firstHit (hit (planOf s₀) (baseOf s₀)) n R) (w .2)
+    ∙ ap (firstHit (hit (planOf s₀) (baseOf s₀)) (c .before .walk .looked))
+    (sym (pairs-skipped (a .clusters * a .size) (a .limit) (a .clusters) g (i .0) (w .0 .left)))
+    ∙ i .3)
+    (c .if1 .came)
+
+-- at most so many pairs were looked at
+few : (c : tie.Joined1 Inv-loop μ-loop Inv-walk μ-walk) → c .if1 .looked ≤ (c .before .walk .g + 1) * mostObservers
+few c =
+    ⊎-elim
+    (λ w. omega (arith, w .5, w .2 .inv .0, w .2 .inv .1, c .before .before .before .pre .1))
+    (λ w. omega (arith, w .2, c .before .walk .inv .2))
     (c .if1 .came)
 
 -- the coalition in hand is not the last
@@ -199,7 +220,8 @@ walk-holds c =
     let n : ℕ = a .clusters * a .size in (
       pow-pos n,
       record { size = c .before .pre .0; base = refl; above = λ j l o. absurd (omega arith) },
-      ap (firstHit (hit (planOf s₀) (baseOf s₀))) (ap (λ (k : ℕ). pairsFrom n (a .limit) (a .clusters) k 0) (sub-zero (2 ^ n)) ∙ pairs-are (a .clusters)
+      omega arith,
+      ap (firstHit (hit (planOf s₀) (baseOf s₀)) 0) (ap (λ (k : ℕ). pairsFrom n (a .limit) (a .clusters) k 0) (sub-zero (2 ^ n)) ∙ pairs-are (a .clusters)
           (a .size) (a .limit)),
     )
 
@@ -225,17 +247,24 @@ loop-holds : tie.Need-loop-holds Inv-loop μ-loop Inv-walk μ-walk
 loop-holds c =
     let s₀ = c .before .before .before .before in let a = s₀ .args in
     let g : ℕ = c .before .before .walk .g in
+    let looked : ℕ = c .before .before .walk .looked in
     let R : List Pair = restOf s₀ g in
     let k : a .clusters + 2 - 1 ≡ a .clusters + 1 = omega arith in (
       omega arith,
-      ap (λ (l : List ℕ). firstHit (hit (planOf s₀) (base (a .clusters) (a .size) (a .cols) (c .if2 .levels))) (map (pairOf g) l ++ R))
+      omega (arith, c .before .before .walk .inv .2),
+      ap (λ (l : List ℕ). firstHit (hit (planOf s₀) (base (a .clusters) (a .size) (a .cols) (c .if2 .levels))) looked (map (pairOf g) l ++ R))
           (ap (λ (n : ℕ). observersFrom (a .clusters) n 1) k ∙ observers-are (a .clusters))
-          ∙ subst (λ (X : List ℕ). firstHit (hit (planOf s₀) X) (map (pairOf g) (observers (a .clusters)) ++ R) ≡ walked (planOf s₀) X) (sym (full c .base))
-          (kept (c .before)),
+          ∙ subst (λ (X : List ℕ). firstHit (hit (planOf s₀) X) looked (map (pairOf g) (observers (a .clusters)) ++ R) ≡ walked (planOf s₀) X)
+          (sym (full c .base)) (kept (c .before)),
     )
 
 rem-observer : tie.Need-rem-observer Inv-loop μ-loop Inv-walk μ-walk
 rem-observer c = omega arith
+
+-- a coalition has at most 9 observers, so that 32 bits are room enough
+add-looked : tie.Need-add-looked Inv-loop μ-loop Inv-walk μ-walk
+add-looked c =
+    omega (arith, c .before .loop .inv .0, c .before .loop .inv .1, small (c .before .before .before .before), c .before .before .before .before .before .before .pre .1)
 
 leaks-to-requires : tie.Need-leaks-to-requires Inv-loop μ-loop Inv-walk μ-walk
 leaks-to-requires c κs =
@@ -257,11 +286,13 @@ loop-again c =
     let w : ℕ = c .before .before .before .before .loop .w in
     let f = hit (planOf s₀) (base (a .clusters) (a .size) (a .cols) (d .if2 .levels)) in
     let R : List Pair = restOf s₀ g in
+    let looked : ℕ = c .before .before .before .before .loop .looked in
     let h = c .before .before .before .loop-test .taken in (
       omega (arith, h),
-      sym (miss-first f g R (w % (a .clusters + 1)) (observersFrom (a .clusters) (a .clusters + 2 - (w + 1)) (w + 1)) (sym (tested (c .before)) ∙ c .if3 .left))
-          ∙ ap (λ (l : List ℕ). firstHit f (map (pairOf g) l ++ R)) (sym (observers-next (a .clusters) w h))
-          ∙ c .before .before .before .before .loop .inv .1,
+      omega (arith, c .before .before .before .before .loop .inv .1),
+      sym (miss-first f g R looked (w % (a .clusters + 1)) (observersFrom (a .clusters) (a .clusters + 2 - (w + 1)) (w + 1)) (sym (tested (c .before)) ∙ c .if3 .left))
+          ∙ ap (λ (l : List ℕ). firstHit f looked (map (pairOf g) l ++ R)) (sym (observers-next (a .clusters) w h))
+          ∙ c .before .before .before .before .loop .inv .2,
     )
 
 add-g : tie.Need-add-g Inv-loop μ-loop Inv-walk μ-walk
@@ -271,7 +302,7 @@ walk-less : tie.Need-walk-less Inv-loop μ-loop Inv-walk μ-walk
 walk-less c = omega (arith, more c)
 
 walk-again : tie.Need-walk-again Inv-loop μ-loop Inv-walk μ-walk
-walk-again c = (more c, to-next _ _ _ _ _ _ _ (joined (c .before)), over (c .before))
+walk-again c = (more c, to-next _ _ _ _ _ _ _ (joined (c .before)), few (c .before), over (c .before))
 
 same-length : tie.Need-same-length Inv-loop μ-loop Inv-walk μ-walk
 same-length c = full (c .before .before .before .before .before) .size ∙ sym (c .before .before .before .before .before .before .before .before .before .pre .0)
@@ -284,9 +315,10 @@ returns c =
     let w : ℕ = c .before .before .before .before .loop .w in
     let f = hit (planOf s₀) (base (a .clusters) (a .size) (a .cols) (d .if2 .levels)) in
     let R : List Pair = restOf s₀ g in
-    sym (hit-first f g R (w % (a .clusters + 1)) (observersFrom (a .clusters) (a .clusters + 2 - (w + 1)) (w + 1)) (sym (tested (c .before)) ∙ c .if3 .taken))
-    ∙ ap (λ (l : List ℕ). firstHit f (map (pairOf g) l ++ R)) (sym (observers-next (a .clusters) w (c .before .before .before .loop-test .taken)))
-    ∙ c .before .before .before .before .loop .inv .1
+    let looked : ℕ = c .before .before .before .before .loop .looked in
+    sym (hit-first f g R looked (w % (a .clusters + 1)) (observersFrom (a .clusters) (a .clusters + 2 - (w + 1)) (w + 1)) (sym (tested (c .before)) ∙ c .if3 .taken))
+    ∙ ap (λ (l : List ℕ). firstHit f looked (map (pairOf g) l ++ R)) (sym (observers-next (a .clusters) w (c .before .before .before .loop-test .taken)))
+    ∙ c .before .before .before .before .loop .inv .2
     ∙ ap (walked (planOf s₀)) (full d .base)
 
 same-length-2 : tie.Need-same-length-2 Inv-loop μ-loop Inv-walk μ-walk
@@ -301,7 +333,8 @@ returns-2 c =
     let e : 1 * 2 ^ n % 2 ^ 32 ≡ 2 ^ n = top-is n (d .pre .3) in
     let l : g ≡ 2 ^ n - 1 = c .if4 .taken ∙ ap (λ (k : ℕ). k - 1) e in
     let f = hit (planOf s₀) (baseOf s₀) in
-    sym (ap (firstHit f) (pairs-end n (a .limit) (a .clusters) (2 ^ n - (g + 1)) (g + 1) (omega (arith, pow-pos n))) ∙ hit-none f)
+    let looked : ℕ = c .before .if1 .looked in
+    sym (ap (firstHit f looked) (pairs-end n (a .limit) (a .clusters) (2 ^ n - (g + 1)) (g + 1) (omega (arith, pow-pos n))) ∙ hit-none f looked)
     ∙ over (c .before)
 
 pub walk-levels-spec : {M : Type 1} → statement M
@@ -326,6 +359,7 @@ walk-levels-spec =
     descend-requires
     loop-holds
     rem-observer
+    add-looked
     leaks-to-requires
     add-w
     loop-less
