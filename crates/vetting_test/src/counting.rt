@@ -2,11 +2,14 @@
 // Blocks have one position: where a pair leaks with longer blocks, it does so with these (proved: leak-is-small).
 use crate::numbers::ones;
 use crate::numbers::pack;
+use crate::tables::MANY_SETS;
 use crate::tables::Shape;
 use crate::tables::entry;
+use crate::tables::sets;
 use crate::tables::users;
 use arithmetic::Symbol;
 use std::num::wrapping_add_u8;
+use std::num::wrapping_add_usize;
 use std::num::wrapping_sub_u8;
 use testing::mul_add;
 use testing::narrow;
@@ -235,35 +238,67 @@ fn observer(s: Shape, n: usize) -> usize {
     residue(n % 65536 + 1, s.clusters % 65536 + 1)
 }
 
-// Pair number x of the walk, with 9 numbers a coalition.
+// A number for each observer of the largest plan: so many for each coalition.
+const OBSERVERS: usize = 9;
+
+// Pair number x of the walk.
 fn nth_pair(s: Shape, x: usize) -> Pair {
     Pair {
-        coalition: x / 9,
-        observer: observer(s, x % 9),
+        coalition: x / OBSERVERS,
+        observer: observer(s, x % OBSERVERS),
     }
 }
 
-// Whether pair number x is one of the plan's, and leaks.
-fn leaks_at(s: Shape, keys: &[u8; 512], x: usize, counts: &mut [u8; 65536]) -> bool {
-    if x % 9 > s.clusters {
+// Whether pair number x is one of the plan's.
+fn is_pair(s: Shape, x: usize) -> bool {
+    if x % OBSERVERS > s.clusters {
         return false;
     }
-    if ones(x / 9, users(s)) > s.limit {
+    ones(x / OBSERVERS, users(s)) <= s.limit
+}
+
+// Whether it is, and leaks.
+fn leaks_at(s: Shape, keys: &[u8; 512], x: usize, counts: &mut [u8; 65536]) -> bool {
+    if !is_pair(s, x) {
         return false;
     }
     leaks(s, keys, nth_pair(s, x), counts)
 }
 
+// The answer that names pair number x.
+fn named(s: Shape, x: usize) -> usize {
+    let p = nth_pair(s, x);
+    pack(7, p.coalition, p.observer)
+}
+
+fn pair_numbers(s: Shape) -> usize {
+    sets(s) % MANY_SETS * OBSERVERS
+}
+
 // The first pair that leaks, packed with the number 7; 0 where none does.
 fn first_leak(s: Shape, keys: &[u8; 512], counts: &mut [u8; 65536]) -> usize {
-    let all = product(power(65536, 2, users(s)), 9);
+    let all = pair_numbers(s);
     for x in 0..all {
         if leaks_at(s, keys, x, counts) {
-            let p = nth_pair(s, x);
-            return pack(7, p.coalition, p.observer);
+            return named(s, x);
         }
     }
     0
+}
+
+// How many pairs the plan has up to the one that an answer names, with it; all of them where it names none.
+pub fn place_of(s: Shape, answer: usize) -> usize {
+    let all = pair_numbers(s);
+    let mut place: usize = 0;
+    for x in 0..all {
+        if is_pair(s, x) {
+            place = wrapping_add_usize(place, 1);
+            if named(s, x) == answer {
+                return place;
+            }
+        }
+    }
+    place
 }
 
 // The same for a key table, from counts that are all 0, as they are left.

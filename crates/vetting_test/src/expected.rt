@@ -14,7 +14,7 @@ fn is_one_to(n: usize, most: usize) -> bool {
 }
 
 // Bounds: U and V from 1 to 8, U V at most 16, T from 0 to U V, R from 1 to 16.
-fn fits(s: Shape) -> bool {
+pub fn fits(s: Shape) -> bool {
     let counts = is_one_to(s.clusters, 8) && is_one_to(s.size, 8) && is_one_to(s.rate, 16);
     counts && users(s) <= 16 && s.limit <= users(s)
 }

@@ -2,6 +2,7 @@
 mod cases;
 mod counting;
 mod expected;
+mod figures;
 mod numbers;
 mod tables;
 mod wrong;
@@ -11,6 +12,7 @@ use cases::Case;
 use libc::STDOUT_FILENO;
 use numbers::pack;
 use plans::Plan;
+use refusals::Verdict;
 use std::num::wrapping_add_usize;
 use tables::Shape;
 use testing::narrow;
@@ -19,17 +21,28 @@ use testing::wide;
 // One symbol more than the largest table has.
 const LONGEST: usize = 257;
 
-// What the vet says, packed.
-fn answer(s: Shape, t: &[Symbol]) -> usize {
-    let plan = Plan {
+fn plan_of(s: Shape) -> Plan {
+    Plan {
         clusters: s.clusters,
         size: s.size,
         limit: s.limit,
         rate: s.rate,
         q: narrow(s.q),
-    };
-    let code = refusals::verdict_code(vetting::vet(plan, t));
+    }
+}
+
+fn said(verdict: Verdict) -> usize {
+    let code = refusals::verdict_code(verdict);
     pack(wide(code.number), wide(code.first), wide(code.second))
+}
+
+// How many pairs are looked at before an answer: up to the one that it names, all where nothing is refused, and none before another refusal.
+fn looked_at(s: Shape, answer: usize) -> usize {
+    let number = answer / 4294967296;
+    if number == 0 || number == 7 {
+        return counting::place_of(s, answer);
+    }
+    0
 }
 
 // In the last group a table that no other check refuses is all zeros: relay 1 sees every reading of its cluster.
@@ -63,11 +76,15 @@ fn class(answer: usize) -> usize {
 // The class of the answer, or 8 where the two answers differ.
 fn compare(c: Case, t: &mut [Symbol], counts: &mut [u8; 65536]) -> usize {
     cases::fill(c, t);
-    let said = answer(cases::shape(c), t);
-    if said != second_answer(c, t, counts) {
+    let s = cases::shape(c);
+    let answer = said(vetting::vet(plan_of(s), t));
+    let report = vetting::vet_counted(plan_of(s), t);
+    let verdict = report.verdict;
+    let same = said(verdict) == answer && report.looked as usize == looked_at(s, answer);
+    if !same || answer != second_answer(c, t, counts) {
         return 8;
     }
-    class(said)
+    class(answer)
 }
 
 fn outcome(c: Case, counts: &mut [u8; 65536]) -> usize {
@@ -137,4 +154,5 @@ fn main() {
         report(group, &mut counts, &mut total);
     }
     write_line(5, &total);
+    figures::report();
 }

@@ -4,6 +4,7 @@ use std::num::wrapping_sub_usize;
 use testing::at;
 use testing::draw;
 use testing::mul_add;
+use testing::power;
 use testing::product;
 use testing::put;
 use testing::residue;
@@ -21,6 +22,14 @@ pub struct Shape {
 
 pub fn users(s: Shape) -> usize {
     product(s.clusters, s.size)
+}
+
+// Above the number of sets of 16 users, the most there are.
+pub const MANY_SETS: usize = 131072;
+
+// How many sets of users there are.
+pub fn sets(s: Shape) -> usize {
+    power(MANY_SETS, 2, users(s))
 }
 
 pub fn symbols(s: Shape) -> usize {

@@ -22,4 +22,5 @@ main-spec =
     (search needs)
     (search needs)
     (search needs)
+    (search needs)
     (search needs))

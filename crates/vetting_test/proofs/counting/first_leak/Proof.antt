@@ -23,7 +23,4 @@ first-leak-spec =
     (search needs)
     (search needs)
     (search needs)
-    (search needs)
-    (search needs)
-    (search needs)
     (search needs))
