@@ -5,13 +5,13 @@ use mathlib.Core.Path.{_≡_}
 use mathlib.Core.Logic.{_≢_}
 use mathlib.Core.List.{List}
 use lib.ListN.{length}
-use Rattle.refusals.specs.Codes.{accepted, firstOf}
+use Rattle.refusals.specs.Codes.{accepted}
 use Rattle.secrecy.specs.Leaks.{PairLeak}
 use Rattle.plans.specs.declared.Plan.{Plan}
 use Rattle.vetting.specs.declared.Pair.{Pair}
 use Rattle.vetting.specs.Pools.{poolOf}
 use Rattle.vetting.specs.Walk.{pairs, First}
-use Rattle.vetting.specs.Vet.{otherChecks, vetCode}
+use Rattle.vetting.specs.Vet.{vetCode}
 use Rattle.vetting.specs.Length.{pairCount, lookedAt}
 
 -- "The figure equals the length of the vet's list in its own definition.": for all counts, within their bounds or not
@@ -27,7 +27,7 @@ module _ (P : Plan) (K : List ℕ) where
   -- looked at, but one
   abbrev pub LeakingLooksToFirst : Type 0
   LeakingLooksToFirst =
-      accepted ≡ firstOf (otherChecks P K) → (p : Pair) → vetCode P K ≡ record { number = 7; first = p .coalition; second = p .observer }
+      (p : Pair) → vetCode P K ≡ record { number = 7; first = p .coalition; second = p .observer }
       → (f : First (λ x. PairLeak (poolOf P K) (x .coalition) (x .observer)) (pairs (P .clusters) (P .size) (P .limit)) p)
       × (lookedAt P K ≡ length (f .before) + 1)
 

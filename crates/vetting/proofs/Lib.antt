@@ -13,4 +13,5 @@ mod BaseRows
 mod Deciding
 pub mod ExactSecrecy
 pub mod Looking
+pub mod OneCount
 pub mod PlanLaws

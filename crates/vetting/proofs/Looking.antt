@@ -1,25 +1,27 @@
 -- How many pairs the vet looked at: all of an accepted plan, of a leaking one those up to the first that leaks, and none where another check refuses.
-use Prim.Native.Nat.{ℕ, suc, _+_}
+use Prim.Native.Nat.{ℕ, suc, _+_, _*_}
 use mathlib.Core.Path.{_≡_, refl, sym, ap, _∙_}
 use mathlib.Core.Logic.{_≢_, ⊎-elim}
-use mathlib.Core.Bool.{Bool, true, false}
+use mathlib.Core.Bool.{Bool, true, false, cond, not}
 use mathlib.Core.List.{List, [], _∷_, _++_, map}
 use native.Mathlib.Omega.{arith}
-use lib.Dec.{T}
+use lib.Dec.{T, eqb}
 use lib.ListN.{length}
 use Rattle.refusals.specs.declared.Code.{Code}
-use Rattle.refusals.specs.Codes.{accepted, isAccepted, firstOf}
+use Rattle.refusals.specs.Codes.{code, accepted, isAccepted, firstOf}
 use Rattle.refusals.proofs.CodeLaws.{accepted-takes, old-kept}
-use Rattle.refusals.proofs.Orders.{number-accepts}
-use Rattle.lists.specs.Lists.{All}
+use Rattle.refusals.proofs.Orders.{number-accepts, first-decides}
+use Rattle.residues.specs.Primes.{isPrime, allBelow}
+use Rattle.lists.specs.Lists.{All, tab}
 use Rattle.lists.proofs.Searches.{T→true, not-T→false}
 use Rattle.lists.proofs.Members.{all-map}
 use Rattle.secrecy.specs.Leaks.{leaks}
 use Rattle.plans.specs.declared.Plan.{Plan}
+use Rattle.plans.specs.Plans.{usersOf, inBounds}
 use Rattle.vetting.specs.declared.Pair.{Pair}
 use Rattle.vetting.specs.Pools.{poolOf}
 use Rattle.vetting.specs.Walk.{pairs, InWalk, First}
-use Rattle.vetting.specs.Vet.{leakCheck, otherChecks, vetCode}
+use Rattle.vetting.specs.Vet.{columnCheck, columnChecks, leakCheck, otherChecks, vetCode}
 use Rattle.vetting.specs.Length.{pairCount, placeIn, lookedAt}
 use Rattle.vetting.proofs.PairLists.{pairs-in, pairs-length}
 use Rattle.vetting.proofs.ExactSecrecy.{TestLeaks, LeaksTo, other-numbered, accepted-checked, accepted-quiet, found-iff, quiet-code, search, named}
@@ -37,6 +39,29 @@ module _ (b : Pair → Bool) where
   unfolding placeIn
   place-first [] after p none here = rw (T→true (b p) here) refl
   place-first (x ∷ before) after p none here = rw (not-T→false (b x) (none .0)) (ap suc (place-first before after p (none .1) here) ∙ omega arith)
+
+-- ---- no check before the walk has the number 7
+
+columns-apart : (P : Plan) (K : List ℕ) (l : List ℕ) → firstOf (map (columnCheck P K) l) .number ≡ 7 → ⊥
+columns-apart P K [] e = omega arith
+columns-apart P K (k ∷ l) e = go (columnCheck P K k .0) e (columns-apart P K l)
+  where
+    go : (t : Bool) → cond t (columnCheck P K k .1) (firstOf (map (columnCheck P K) l)) .number ≡ 7
+        → (firstOf (map (columnCheck P K) l) .number ≡ 7 → ⊥) → ⊥
+    go true e ih = omega arith
+    go false e ih = ih e
+
+others-apart : (P : Plan) (K : List ℕ) → firstOf (otherChecks P K) .number ≡ 7 → ⊥
+others-apart P K =
+    go (not (inBounds P)) (not (eqb (length K) (usersOf P * P .rate))) (not (isPrime (P .q))) (not (allBelow (P .q) K))
+  where
+    go : (s t u v : Bool)
+        → firstOf ((s, code 1) ∷ (t, code 4) ∷ (u, code 2) ∷ (v, code 3) ∷ columnChecks P K) .number ≡ 7 → ⊥
+    go true t u v e = omega arith
+    go false true u v e = omega arith
+    go false false true v e = omega arith
+    go false false false true e = omega arith
+    go false false false false e = columns-apart P K (tab (P .rate) (λ k. k)) e
 
 -- ---- of a plan and its table
 
@@ -59,6 +84,17 @@ module _ (P : Plan) (K : List ℕ) where
       (all-map (λ x. InWalk P (x .coalition) (x .observer)) (λ x. ¬ (TestLeaks P K x))
       (λ x i t. accepted-quiet P K e (x .coalition) (x .observer) i (found-iff P K others x .0 t)) walk (pairs-in P))
       ∙ pairs-length (P .clusters) (P .size) (P .limit)
+
+  -- 7 comes after the other checks, none of which has that number
+  pub leaking-checked : vetCode P K .number ≡ 7 → accepted ≡ firstOf (otherChecks P K)
+  leaking-checked e = go (isAccepted (firstOf (otherChecks P K))) refl
+    where
+      go : (t : Bool) → isAccepted (firstOf (otherChecks P K)) ≡ t → accepted ≡ firstOf (otherChecks P K)
+      go true n = number-accepts (otherChecks P K) (other-numbered P K) n
+      go false n =
+          let z : firstOf (otherChecks P K) .number ≡ 7
+          = ap (λ (d : Code). d .number) (first-decides (otherChecks P K) (map (leakCheck P K) walk) n) ∙ e in
+          absurd (others-apart P K z)
 
   pub leaking-looked : accepted ≡ firstOf (otherChecks P K) → (p : Pair) (f : First (LeaksTo P K) walk p) → lookedAt P K ≡ length (f .before) + 1
   leaking-looked others p f =

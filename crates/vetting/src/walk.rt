@@ -319,7 +319,7 @@ fn set_base(plan: Plan, table: &[Symbol], levels: &mut [Symbol])
     );
 }
 
-// The first pair that leaks.
+// The first pair that leaks, and how many were looked at.
 pub(crate) fn find_leak(plan: Plan, table: &[Symbol]) -> Walked
     requires { ⌜ (inBounds plan ≡ true) × (length (now table) ≡ usersOf plan * plan .rate) × (0 < plan .q) ⌝ }
     ensures { λ r. ⌜ r ≡ walked plan (baseTable plan (now (table .entry))) ⌝ }

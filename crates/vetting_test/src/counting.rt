@@ -301,7 +301,7 @@ pub fn place_of(s: Shape, answer: usize) -> usize {
     place
 }
 
-// The same for a key table, from counts that are all 0, as they are left.
+// The first pair that leaks, from a key table and counts that are all 0, as they are left.
 pub fn leak_of(s: Shape, t: &[Symbol], counts: &mut [u8; 65536]) -> usize {
     let mut keys = [0u8; 512];
     fill_keys(s, t, &mut keys);

@@ -1,10 +1,8 @@
-// How many pairs a vet has to look at, by going through all sets of users.
+// How many pairs a vet has to look at, by going through all of them.
+use crate::counting::place_of;
 use crate::expected::fits;
-use crate::numbers::ones;
 use crate::numbers::pack;
 use crate::tables::Shape;
-use crate::tables::sets;
-use crate::tables::users;
 use libc::STDOUT_FILENO;
 use std::num::wrapping_add_usize;
 use testing::wide;
@@ -23,24 +21,12 @@ fn shape(x: usize) -> Shape {
     }
 }
 
-// Each set of at most T users has U relays and the server as observers.
-fn pairs(s: Shape) -> usize {
-    let n = users(s);
-    let all = sets(s);
-    let mut sum: usize = 0;
-    for g in 0..all {
-        if ones(g, n) <= s.limit {
-            sum = wrapping_add_usize(sum, s.clusters % 65536 + 1);
-        }
-    }
-    sum
-}
-
+// All pairs of the walk, one by one: 0 is no answer that names one.
 fn expected(s: Shape) -> usize {
     if !fits(s) {
         return pack(1, 0, 0);
     }
-    pairs(s)
+    place_of(s, 0)
 }
 
 fn counted(s: Shape) -> usize {
