@@ -32,6 +32,11 @@ pub const TRIPLES: u64 = 2902380;
 // How many inputs of each operation are drawn.
 pub const DRAWN: u64 = 6400;
 
+// How many refusals there are, and how many inputs: a thousand of each.
+const REFUSALS: u64 = 15;
+
+pub const CODES: u64 = 15000;
+
 // Every q below 60 with every a to 60, then with every b to 60 too, then with every fifth m. So q and q + 1 are always among the numbers.
 fn small_case(k: u64, seed: u64) -> Case {
     Case {
@@ -111,12 +116,18 @@ pub fn next_seed(x: u64) -> u64 {
     step(step(step(step(step(x)))))
 }
 
+// The numbers of all refusals in turn: 1 to 14, then 19.
+fn catalogued(k: u64) -> u16 {
+    let place = k % REFUSALS;
+    if place == 14 { 19 } else { low16(1 + place) }
+}
+
 // For the catalogue q is the number of a refusal, and a and b are its details.
 pub fn case_of(group: Group, k: u64, seed: u64) -> Case {
     match group {
         Group::BelowSixty => small_case(k, seed),
         Group::Drawn => drawn_case(modulus(k), seed),
         Group::EveryModulus => drawn_case(low16(k), seed),
-        Group::EveryRefusal => drawn_case(low16(1 + k % 14), seed),
+        Group::EveryRefusal => drawn_case(catalogued(k), seed),
     }
 }

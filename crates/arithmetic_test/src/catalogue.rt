@@ -13,7 +13,7 @@ pub fn packed(code: Code) -> u64 {
     pack(code.number, code.first, code.second)
 }
 
-// Only 6 and 7 hold details.
+// Only 6, 7 and 19 hold details.
 fn refusal(number: u16, first: u16, second: u16) -> Refusal {
     match number {
         1 => Refusal::OutOfBounds,
@@ -32,13 +32,14 @@ fn refusal(number: u16, first: u16, second: u16) -> Refusal {
         11 => Refusal::AlreadyReported,
         12 => Refusal::NotFull,
         13 => Refusal::StreamTooShort,
-        _ => Refusal::OtherRound,
+        14 => Refusal::OtherRound,
+        _ => Refusal::JointLeaks { coalition: first },
     }
 }
 
 fn second_code(number: u16, first: u16, second: u16) -> u64 {
     match number {
-        6 => pack(6, first, 0),
+        6 | 19 => pack(number, first, 0),
         7 => pack(7, first, second),
         _ => pack(number, 0, 0),
     }

@@ -1,4 +1,5 @@
 // The lines: a name, and how many inputs agree. Each function goes on with a tally of all lines before.
+use crate::cases::CODES;
 use crate::cases::DRAWN;
 use crate::cases::Group;
 use crate::cases::PAIRS;
@@ -84,14 +85,14 @@ pub fn catalogue(t: Tally, divisors: &[u8; 65536]) -> Tally {
         b"code_of",
         Subject::CodeOf,
         Group::EveryRefusal,
-        14000,
+        CODES,
     );
     let verdicts = line(
         divisors,
         b"verdict_code",
         Subject::VerdictCode,
         Group::EveryRefusal,
-        14000,
+        CODES,
     );
     joined(t, joined(codes, verdicts))
 }
