@@ -13,9 +13,9 @@ use Rattle.matrices.specs.Linear.{Vector}
 use Rattle.matrices.specs.Rank.{anyList, sameList}
 use Rattle.matrices.proofs.Spans.{any-list-found, any-list-at, same→eq}
 use Rattle.lists.specs.Sums.{howMany}
-use Rattle.secrecy.specs.Model.{Pool, users, inCoalition, inCluster, reading, total, setView, serverView, view}
-use Rattle.secrecy.specs.Leaks.{keysShowing, membersAgree, totalsAgree, agree, places, leaksAt, leaks, Symbols, Agree, ServerAgree, Agrees, PairLeak}
-use Rattle.secrecy.specs.Leaks.{longest}
+use Rattle.secrecy.specs.Model.{Pool, users, inCoalition, inCluster, reading, total, setView, serverView}
+use Rattle.secrecy.specs.Leaks.{keysShowing, membersAgree, totalsAgree, agree, places, foundAt, found, setLeaks, leaks, longest}
+use Rattle.secrecy.specs.Leaks.{Symbols, Agree, ServerAgree, Leak, PairLeak}
 use Rattle.lists.proofs.ListLaws.{many-all}
 use Rattle.secrecy.proofs.CountLaws.{count-found}
 use Rattle.secrecy.proofs.Forms.{see-vector}
@@ -59,100 +59,115 @@ module _ (P : Pool) where
       (λ f. all-made L (λ p. eqb (total P L W p) (total P L W′ p)) (λ p l. eqb-iff (total P L W p) (total P L W′ p) .1 (f p l))),
     )
 
-  agree-iff : (g w L : ℕ) (W W′ : List ℕ) → T (agree P g w L W W′) ↔ Agrees P g w L W W′
-  agree-iff g zero L W W′ = (
+  -- on the coalition's members
+  agree-iff : (g L : ℕ) (W W′ : List ℕ) → T (membersAgree P g L W W′) ↔ Agree P g L W W′
+  agree-iff g L W W′ = ((λ t. record { members = members-iff g L W W′ .0 t }), λ a. members-iff g L W W′ .1 (a .members))
+
+  -- and on the totals
+  server-agree-iff : (g L : ℕ) (W W′ : List ℕ) → T (agree P g zero L W W′) ↔ ServerAgree P g L W W′
+  server-agree-iff g L W W′ = (
     (λ t.
         let (a, b) = T-and (membersAgree P g L W W′) (totalsAgree P L W W′) t in
-        record { coalition = record { members = members-iff g L W W′ .0 a }; totals = totals-iff g L W W′ .0 b }),
-    (λ a. and-T (membersAgree P g L W W′) (totalsAgree P L W W′) (members-iff g L W W′ .1 (a .coalition .members)) (totals-iff g L W W′ .1 (a .totals))),
+        record { coalition = agree-iff g L W W′ .0 a; totals = totals-iff g L W W′ .0 b }),
+    (λ a. and-T (membersAgree P g L W W′) (totalsAgree P L W W′) (agree-iff g L W W′ .1 (a .coalition)) (totals-iff g L W W′ .1 (a .totals))),
   )
-  agree-iff g (suc u) L W W′ = ((λ t. record { members = members-iff g L W W′ .0 t }), λ a. members-iff g L W W′ .1 (a .members))
 
-  -- ---- a view has its places
+  -- ---- the search, for any agreement and any view of a known size
 
-  view-places : 0 < P .q → (g w L : ℕ) (W N : List ℕ) → Symbols (P .q) (users P) L W → Vector (P .q) (places P g w L) (view P g w L W N)
-  view-places pos g zero L W N =
-      see-vector (P .q) (users P) (P .rate) L W N pos (P .clusters + (howMany (users P) (inCoalition g) + howMany (users P) (inCoalition g)))
-      (ones P ∷ units P g) (seenForms P g (P .clusters) (λ _. true) (sumForm P)) (ServerAgree P g) (serverView P g) (server-forms P g)
-      (length-seen P g (P .clusters) (λ _. true) (sumForm P)
-      ∙ ap (λ (z : ℕ). z + (howMany (users P) (inCoalition g) + howMany (users P) (inCoalition g))) (many-all (P .clusters)))
-  view-places pos g (suc u) L W N =
-      see-vector (P .q) (users P) (P .rate) L W N pos (howMany (users P) (inCluster P u)
-      + (howMany (users P) (inCoalition g) + howMany (users P) (inCoalition g)))
-      (units P g) (seenForms P g (users P) (inCluster P u) (upForm P)) (Agree P g) (setView P (inCluster P u) g) (set-forms P (inCluster P u) g)
-      (length-seen P g (users P) (inCluster P u) (upForm P))
+  module _ (agrees : ℕ → List ℕ → List ℕ → Bool) (Agr : ℕ → List ℕ → List ℕ → Type 0)
+      (agr-iff : (L : ℕ) (W W′ : List ℕ) → T (agrees L W W′) ↔ Agr L W W′)
+      (size : ℕ → ℕ) (see : ℕ → List ℕ → List ℕ → List ℕ)
+      (sized : (L : ℕ) (W N : List ℕ) → Symbols (P .q) (users P) L W → Vector (P .q) (size L) (see L W N)) where
+    -- how many source keys show s
+    abbrev shows : (L : ℕ) (W s : List ℕ) → ℕ
+    shows L W s = keysShowing (P .q) (P .rate) see L W s
 
-  -- how many source keys show s
-  abbrev shows : (g w L : ℕ) (W s : List ℕ) → ℕ
-  shows g w L W s = keysShowing (P .q) (P .rate) (view P g w) L W s
+    abbrev AnyLeak : Type 0
+    AnyLeak = Leak (P .q) (P .rate) (Symbols (P .q) (users P)) Agr see
 
-  -- a view that some source key shows has them
-  shown-places : 0 < P .q → (g w L : ℕ) (W s : List ℕ) → Symbols (P .q) (users P) L W → shows g w L W s ≢ 0
-      → Vector (P .q) (places P g w L) s
-  unfolding keysShowing
-  shown-places pos g w L W s v h =
-      let (N, _, t) = count-found (P .q) (L * P .rate) (λ N. sameList (view P g w L W N) s) h in
-      subst (Vector (P .q) (places P g w L)) (same→eq (view P g w L W N) s t) (view-places pos g w L W N v)
+    -- what some source key shows has that size
+    shown-size : (L : ℕ) (W s : List ℕ) → Symbols (P .q) (users P) L W → shows L W s ≢ 0 → Vector (P .q) (size L) s
+    unfolding keysShowing
+    shown-size L W s v h =
+        let (N, _, t) = count-found (P .q) (L * P .rate) (λ N. sameList (see L W N) s) h in
+        subst (Vector (P .q) (size L)) (same→eq (see L W N) s t) (sized L W N v)
 
-  -- so has one that leaks: where two numbers are unequal, one is not 0
-  leak-places : 0 < P .q → (g w : ℕ) (k : PairLeak P g w) → Vector (P .q) (places P g w (k .L)) (k .s)
-  leak-places pos g w k = go (ℕ-discrete (shows g w (k .L) (k .W) (k .s)) 0)
-    where
-      go : Dec (shows g w (k .L) (k .W) (k .s) ≡ 0) → Vector (P .q) (places P g w (k .L)) (k .s)
-      go (no h) = shown-places pos g w (k .L) (k .W) (k .s) (k .W-in) h
-      go (yes e) = shown-places pos g w (k .L) (k .W′) (k .s) (k .W′-in) (λ f. k .unequal (e ∙ sym f))
+    -- so has what leaks: where two numbers are unequal, one is not 0
+    leak-size : (k : AnyLeak) → Vector (P .q) (size (k .L)) (k .s)
+    leak-size k = go (ℕ-discrete (shows (k .L) (k .W) (k .s)) 0)
+      where
+        go : Dec (shows (k .L) (k .W) (k .s) ≡ 0) → Vector (P .q) (size (k .L)) (k .s)
+        go (no h) = shown-size (k .L) (k .W) (k .s) (k .W-in) h
+        go (yes e) = shown-size (k .L) (k .W′) (k .s) (k .W′-in) (λ f. k .unequal (e ∙ sym f))
 
-  -- ---- the search
+    unequalAt : (L : ℕ) (W W′ s : List ℕ) → Bool
+    unequalAt L W W′ s = not (eqb (shows L W s) (shows L W′ s))
 
-  unequalAt : (g w L : ℕ) (W W′ s : List ℕ) → Bool
-  unequalAt g w L W W′ s = not (eqb (shows g w L W s) (shows g w L W′ s))
+    pairAt : (L : ℕ) (W W′ : List ℕ) → Bool
+    unfolding unequalAt
+    pairAt L W W′ = agrees L W W′ && anyList (P .q) (size L) (unequalAt L W W′)
 
-  pairAt : (g w L : ℕ) (W W′ : List ℕ) → Bool
-  unfolding unequalAt
-  pairAt g w L W W′ = agree P g w L W W′ && anyList (P .q) (places P g w L) (unequalAt g w L W W′)
+    leak-found : T (found P agrees size see) → AnyLeak
+    unfolding found foundAt pairAt unequalAt
+    leak-found t =
+        let (l, b, t₁) = any-found longest (λ l. foundAt P agrees size see (suc l)) t in
+        let L : ℕ = suc l in
+        let (W, v, t₂) = any-list-found (P .q) (users P * L) (λ W. anyList (P .q) (users P * L) (pairAt L W)) t₁ in
+        let (W′, v′, t₃) = any-list-found (P .q) (users P * L) (pairAt L W) t₂ in
+        let (a, t₄) = T-and (agrees L W W′) (anyList (P .q) (size L) (unequalAt L W W′)) t₃ in
+        let (s, _, u) = any-list-found (P .q) (size L) (unequalAt L W W′) t₄ in
+        record {
+          L = L;
+          low = omega arith;
+          high = b;
+          W = W;
+          W′ = W′;
+          W-in = v;
+          W′-in = v′;
+          same = agr-iff L W W′ .0 a;
+          s = s;
+          unequal = λ e. T-not (eqb (shows L W s) (shows L W′ s)) u (eqb-iff (shows L W s) (shows L W′ s) .1 e);
+        }
 
-  leaks-found : (g w : ℕ) → T (leaks P g w) → PairLeak P g w
-  unfolding leaks leaksAt pairAt unequalAt
-  leaks-found g w t =
-      let (l, b, t₁) = any-found longest (λ l. leaksAt P g w (suc l)) t in
-      let L : ℕ = suc l in
-      let (W, v, t₂) = any-list-found (P .q) (users P * L) (λ W. anyList (P .q) (users P * L) (pairAt g w L W)) t₁ in
-      let (W′, v′, t₃) = any-list-found (P .q) (users P * L) (pairAt g w L W) t₂ in
-      let (a, t₄) = T-and (agree P g w L W W′) (anyList (P .q) (places P g w L) (unequalAt g w L W W′)) t₃ in
-      let (s, _, u) = any-list-found (P .q) (places P g w L) (unequalAt g w L W W′) t₄ in
-      record {
-        L = L;
-        low = omega arith;
-        high = b;
-        W = W;
-        W′ = W′;
-        W-in = v;
-        W′-in = v′;
-        same = agree-iff g w L W W′ .0 a;
-        s = s;
-        unequal = λ e.
-            T-not (eqb (shows g w L W s) (shows g w L W′ s)) u
-            (eqb-iff (shows g w L W s) (shows g w L W′ s) .1 e);
-      }
+    leak-made : AnyLeak → T (found P agrees size see)
+    unfolding found foundAt pairAt unequalAt
+    leak-made k =
+        let L : ℕ = k .L in
+        let W : List ℕ = k .W in
+        let W′ : List ℕ = k .W′ in
+        let s : List ℕ = k .s in
+        let low : 1 ≤ L = k .low in
+        let high : L ≤ longest = k .high in
+        any-at longest (λ l. foundAt P agrees size see (suc l)) (L - 1) (omega arith)
+        (subst (λ (z : ℕ). T (foundAt P agrees size see z)) {x = L} {y = suc (L - 1)} (omega arith)
+        (any-list-at (P .q) (users P * L) (λ W. anyList (P .q) (users P * L) (pairAt L W)) W (k .W-in)
+        (any-list-at (P .q) (users P * L) (pairAt L W) W′ (k .W′-in)
+        (and-T (agrees L W W′) (anyList (P .q) (size L) (unequalAt L W W′)) (agr-iff L W W′ .1 (k .same))
+        (any-list-at (P .q) (size L) (unequalAt L W W′) s (leak-size k)
+        (not-T (eqb (shows L W s) (shows L W′ s)) (λ t. k .unequal (eqb→eq (shows L W s) (shows L W′ s) t))))))))
 
-  leaks-made : 0 < P .q → (g w : ℕ) → PairLeak P g w → T (leaks P g w)
-  unfolding leaks leaksAt pairAt unequalAt
-  leaks-made pos g w k =
-      let L : ℕ = k .L in
-      let W : List ℕ = k .W in
-      let W′ : List ℕ = k .W′ in
-      let s : List ℕ = k .s in
-      let low : 1 ≤ L = k .low in
-      let high : L ≤ longest = k .high in
-      any-at longest (λ l. leaksAt P g w (suc l)) (L - 1) (omega arith)
-      (subst (λ (z : ℕ). T (leaksAt P g w z)) {x = L} {y = suc (L - 1)} (omega arith)
-      (any-list-at (P .q) (users P * L) (λ W. anyList (P .q) (users P * L) (pairAt g w L W)) W (k .W-in)
-      (any-list-at (P .q) (users P * L) (pairAt g w L W) W′ (k .W′-in)
-      (and-T (agree P g w L W W′) (anyList (P .q) (places P g w L) (unequalAt g w L W W′)) (agree-iff g w L W W′ .1 (k .same))
-      (any-list-at (P .q) (places P g w L) (unequalAt g w L W W′) s (leak-places pos g w k)
-      (not-T (eqb (shows g w L W s) (shows g w L W′ s))
-      (λ t. k .unequal (eqb→eq (shows g w L W s) (shows g w L W′ s) t))))))))
+    -- it finds a leak just where there is one
+    found-iff : T (found P agrees size see) ↔ Leak (P .q) (P .rate) (Symbols (P .q) (users P)) Agr see
+    found-iff = (leak-found, leak-made)
 
-  -- the search finds a leak just where there is one
-  pub search-iff : 0 < P .q → (g w : ℕ) → T (leaks P g w) ↔ PairLeak P g w
-  search-iff pos g w = (leaks-found g w, leaks-made pos g w)
+  -- ---- the observers
+
+  module _ (pos : 0 < P .q) where
+    -- of the uploads of the users that b picks
+    pub set-search-iff : (b : ℕ → Bool) (g : ℕ) → T (setLeaks P b g) ↔ Leak (P .q) (P .rate) (Symbols (P .q) (users P)) (Agree P g) (setView P b g)
+    set-search-iff b g =
+        found-iff (membersAgree P g) (Agree P g) (agree-iff g) (places P (howMany (users P) b) g) (setView P b g)
+        (λ L W N.
+        see-vector (P .q) (users P) (P .rate) L W N pos (howMany (users P) b + (howMany (users P) (inCoalition g) + howMany (users P) (inCoalition g)))
+        (units P g) (seenForms P g (users P) b (upForm P)) (Agree P g) (setView P b g) (set-forms P b g) (length-seen P g (users P) b (upForm P)))
+
+    -- a relay or the server
+    pub search-iff : (g w : ℕ) → T (leaks P g w) ↔ PairLeak P g w
+    search-iff g zero =
+        found-iff (agree P g zero) (ServerAgree P g) (server-agree-iff g) (places P (P .clusters) g) (serverView P g)
+        (λ L W N.
+        see-vector (P .q) (users P) (P .rate) L W N pos (P .clusters + (howMany (users P) (inCoalition g) + howMany (users P) (inCoalition g)))
+        (ones P ∷ units P g) (seenForms P g (P .clusters) (λ _. true) (sumForm P)) (ServerAgree P g) (serverView P g) (server-forms P g)
+        (length-seen P g (P .clusters) (λ _. true) (sumForm P)
+        ∙ ap (λ (z : ℕ). z + (howMany (users P) (inCoalition g) + howMany (users P) (inCoalition g))) (many-all (P .clusters))))
+    search-iff g (suc u) = set-search-iff (inCluster P u) g

@@ -1,25 +1,31 @@
 -- When a pair of coalition and observer leaks. The test by search and the record agree; and the pair leaks nothing just where the rows that the
--- observer watches are independent over the coalition's, that is, where the ranks add up.
-use Prim.Native.Nat.{ℕ, zero, suc, _+_, _*_, _≤_}
-use mathlib.Core.Path.{_≡_}
+-- observer watches are independent over the coalition's, that is, where the ranks add up. The same of the uploads of any users, as the joint observer
+-- of two clusters sees them.
+use Prim.Native.Nat.{ℕ, zero, suc, _+_, _*_, _/_, _≤_, _<_}
+use mathlib.Core.Path.{_≡_, subst}
+use mathlib.Core.Bool.{Bool, not, _||_}
 use mathlib.Core.Logic.{_⊎_, ⊎-elim, _↔_, Dec·not-not}
-use mathlib.Core.List.{List, [], _++_}
+use mathlib.Core.List.{List, [], _∷_, _++_}
+use native.Mathlib.Nat.{div-lt-iff-lt-mul, mul-pos}
 use native.Mathlib.Decide.{ℕ-discrete}
 use native.Mathlib.Omega.{arith}
 use lib.ListN.{length}
-use lib.Dec.{T}
+use lib.Dec.{T, not-T, eqb}
+use Rattle.lists.proofs.BitLaws.{bit-above}
+use Rattle.lists.proofs.Searches.{and-T}
 use Rattle.residues.specs.Primes.{Prime}
 use Rattle.residues.proofs.PrimeLaws.{prime-pos}
+use Rattle.lists.specs.Lists.{picked}
 use Rattle.matrices.specs.Linear.{Vector}
 use Rattle.matrices.proofs.Notions.{Independent}
 use Rattle.matrices.specs.Rank.{rankOver, rankOf}
 use Rattle.matrices.proofs.RankLaws.{rank-append, full-rank-iff}
-use Rattle.secrecy.specs.Model.{Pool, users, inCluster, view, ZeroSum}
-use Rattle.secrecy.specs.Leaks.{keysShowing, leaks, Symbols, Leak, Agrees, PairLeak, longest}
+use Rattle.secrecy.specs.Model.{Pool, users, inCoalition, inCluster, inEither, setView, view, ZeroSum}
+use Rattle.secrecy.specs.Leaks.{keysShowing, leaks, setLeaks, Symbols, Leak, Agree, Agrees, PairLeak, JointLeak, longest}
 use Rattle.secrecy.proofs.Readings.{Enough, symbols-enough, small-enough}
-use Rattle.secrecy.proofs.Relays.{set-keeps, set-either}
+use Rattle.secrecy.proofs.Relays.{set-keeps, set-either, all-depend}
 use Rattle.secrecy.proofs.Server.{server-keeps, server-either}
-use Rattle.secrecy.proofs.LeakTest.{search-iff}
+use Rattle.secrecy.proofs.LeakTest.{search-iff, set-search-iff}
 pub use Rattle.secrecy.proofs.Readings.{Small}
 pub use Rattle.secrecy.proofs.RankCondition.{row, sumRow, coalitionRows, outside, hasOutsider, tested, watchedRows}
 pub use Rattle.secrecy.proofs.RankCondition.{row-vector, sum-row-vector, coalition-vectors, watched-vectors}
@@ -60,10 +66,18 @@ module _ (P : Pool) (prime : Prime (P .q)) (valid : Vector (P .q) (users P * P .
   every-enough : Enough (P .q) (users P) every
   every-enough = symbols-enough (P .q) (users P) (prime .two)
 
-  -- a relay, for a table that need not sum to 0
+  -- the search on the uploads of any users
+  pub set-leaks-iff : (b : ℕ → Bool) (g : ℕ) → T (setLeaks P b g) ↔ Leak (P .q) (P .rate) every (Agree P g) (setView P b g)
+  set-leaks-iff = set-search-iff P (prime-pos prime)
+
+  -- the uploads of any users, for a table that need not sum to 0
+  pub set-iff : (b : ℕ → Bool) (g : ℕ) → (¬ (Leak (P .q) (P .rate) every (Agree P g) (setView P b g)))
+      ↔ Independent (P .q) (P .rate) (coalitionRows P g) (picked (users P) (outside P b g) (λ i. row P i ∷ []))
+  set-iff b g = just-where (set-either P prime valid b g every every-enough) (set-keeps P prime valid b g every (every-enough .symbols))
+
+  -- so a relay
   pub relay-iff : (g u : ℕ) → (¬ (PairLeak P g (suc u))) ↔ Independent (P .q) (P .rate) (coalitionRows P g) (watchedRows P g (suc u))
-  relay-iff g u =
-      just-where (set-either P prime valid (inCluster P u) g every every-enough) (set-keeps P prime valid (inCluster P u) g every (every-enough .symbols))
+  relay-iff g u = set-iff (inCluster P u) g
 
   -- a relay or the server
   pub pair-iff : ZeroSum P → (g w : ℕ) → (¬ (PairLeak P g w)) ↔ Independent (P .q) (P .rate) (coalitionRows P g) (watchedRows P g w)
@@ -88,16 +102,51 @@ module _ (P : Pool) (prime : Prime (P .q)) (valid : Vector (P .q) (users P * P .
 
   -- ---- what it means
 
-  -- a pair that does not leak has equal numbers, for all readings that agree and every view
+  -- what does not leak has equal numbers, for all readings that agree and every view
+  quiet-equal : (agrees : ℕ → List ℕ → List ℕ → Type 0) (see : ℕ → List ℕ → List ℕ → List ℕ) → ¬ (Leak (P .q) (P .rate) every agrees see)
+      → (L : ℕ) → 1 ≤ L → L ≤ longest
+      → (W W′ : List ℕ) → Symbols (P .q) (users P) L W → Symbols (P .q) (users P) L W′ → agrees L W W′
+      → (s : List ℕ) → keysShowing (P .q) (P .rate) see L W s ≡ keysShowing (P .q) (P .rate) see L W′ s
+  quiet-equal agrees see quiet L low high W W′ v v′ a s =
+      Dec·not-not (ℕ-discrete (keysShowing (P .q) (P .rate) see L W s) (keysShowing (P .q) (P .rate) see L W′ s)) .0
+      (λ n. quiet (record { L = L; low = low; high = high; W = W; W′ = W′; W-in = v; W′-in = v′; same = a; s = s; unequal = n }))
+
+  -- so has a pair
   pub equal-numbers : (g w : ℕ) → ¬ (PairLeak P g w) → (L : ℕ) → 1 ≤ L → L ≤ longest
       → (W W′ : List ℕ) → Symbols (P .q) (users P) L W → Symbols (P .q) (users P) L W′ → Agrees P g w L W W′
       → (s : List ℕ) → keysShowing (P .q) (P .rate) (view P g w) L W s ≡ keysShowing (P .q) (P .rate) (view P g w) L W′ s
-  equal-numbers g w quiet L low high W W′ v v′ a s =
-      Dec·not-not (ℕ-discrete (keysShowing (P .q) (P .rate) (view P g w) L W s) (keysShowing (P .q) (P .rate) (view P g w) L W′ s)) .0
-      (λ n. quiet (record { L = L; low = low; high = high; W = W; W′ = W′; W-in = v; W′-in = v′; same = a; s = s; unequal = n }))
+  equal-numbers g w = quiet-equal (Agrees P g w) (view P g w)
+
+  -- and the joint observer of two clusters
+  pub joint-equal-numbers : (u w g : ℕ) → ¬ (JointLeak P u w g) → (L : ℕ) → 1 ≤ L → L ≤ longest
+      → (W W′ : List ℕ) → Symbols (P .q) (users P) L W → Symbols (P .q) (users P) L W′ → Agree P g L W W′
+      → (s : List ℕ) → keysShowing (P .q) (P .rate) (setView P (inEither P u w) g) L W s
+      ≡ keysShowing (P .q) (P .rate) (setView P (inEither P u w) g) L W′ s
+  joint-equal-numbers u w g = quiet-equal (Agree P g) (setView P (inEither P u w) g)
 
   -- a pair that leaks does so in one position, with no other readings than 0, 1 and q - 1
   pub small-leak : ZeroSum P → (g w : ℕ) → PairLeak P g w → Leak (P .q) (P .rate) (Small (P .q) (users P)) (Agrees P g w) (view P g w)
   small-leak zs g w k =
       ⊎-elim (λ i. absurd (pair-keeps every every-enough zs g w i k)) (λ s. s)
       (pair-either (Small (P .q) (users P)) (small-enough (P .q) (users P) (prime .two)) zs g w)
+
+  -- ---- two clusters
+
+  -- the joint observer of the two sees every user, and with coalition 0 no user is in it
+  all-seen : P .clusters ≡ 2 → 0 < P .size → (i : ℕ) → i < users P → T (outside P (inEither P 0 1) 0 i)
+  unfolding outside inEither inCluster
+  all-seen two some i h =
+      and-T (inEither P 0 1 i) (not (inCoalition 0 i)) (one-of (i / P .size) (subst (λ (c : ℕ). i / P .size < c) two (div-lt-iff-lt-mul some .1 h)))
+      (not-T (inCoalition 0 i) (λ t. subst T (bit-above 0 0 i (omega arith) (omega arith)) t))
+    where
+      one-of : (u : ℕ) → u < 2 → T (eqb u 0 || eqb u 1)
+      one-of zero l = tt
+      one-of (suc zero) l = tt
+      one-of (suc (suc u)) l = absurd (omega arith)
+
+  -- so it leaks on its own, where the table sums to 0
+  pub two-clusters-leak : ZeroSum P → P .clusters ≡ 2 → 0 < P .size → JointLeak P 0 1 0
+  two-clusters-leak zs two some =
+      ⊎-elim
+      (λ i. absurd (all-depend P prime valid (inEither P 0 1) 0 zs (mul-pos (omega arith) some) (all-seen two some) i)) (λ k. k)
+      (set-either P prime valid (inEither P 0 1) 0 every every-enough)

@@ -1,5 +1,5 @@
 -- An observer of the uploads of some users, as a relay is: it leaks just where the row of one of them, outside the coalition, depends on the
--- coalition's rows and those of such users before it.
+-- coalition's rows and those of such users before it. Where it sees every user, a table that sums to 0 has such a row.
 use Prim.Native.Nat.{ℕ, _*_, _<_}
 use mathlib.Core.Path.{_≡_, _∙_}
 use mathlib.Core.Bool.{Bool, not}
@@ -9,18 +9,23 @@ use native.Mathlib.Omega.{arith}
 use lib.Dec.{T, T-not, not-T}
 use Rattle.residues.specs.Primes.{Prime}
 use Rattle.lists.proofs.Searches.{T-and, and-T, T-decide}
-use Rattle.residues.proofs.Congruence.{of-eq}
-use Rattle.lists.specs.Lists.{All, picked}
+use Rattle.residues.proofs.Congruence.{of-eq, of-mod, c-sym, c-trans, zero-not-one}
+use Rattle.residues.proofs.CongruentSums.{sum-c}
+use Rattle.lists.specs.Lists.{at, All, picked}
+use Rattle.lists.specs.Sums.{sumTo}
+use Rattle.lists.proofs.Sums.{sum-one}
 use Rattle.matrices.specs.Linear.{Vector}
-use Rattle.matrices.proofs.Notions.{dot, Independent}
-use Rattle.secrecy.specs.Model.{Pool, users, inCoalition, setView}
+use Rattle.matrices.proofs.Notions.{dotN, dot, Independent}
+use Rattle.secrecy.specs.Model.{Pool, users, inCoalition, setView, ZeroSum}
 use Rattle.secrecy.specs.Leaks.{Leak, Symbols, Agree}
 use Rattle.secrecy.proofs.Units.{unit, dot-unit, at-unit-same, at-unit-other}
 use Rattle.secrecy.proofs.Forms.{Unseen, MakesUp}
 use Rattle.secrecy.proofs.Readings.{Enough}
-use Rattle.secrecy.proofs.RankCondition.{row, coalitionRows, outside, row-vector}
+use Rattle.secrecy.proofs.RankCondition.{row, coalitionRows, outside, row-vector, coalition-vectors}
 use Rattle.secrecy.proofs.PoolForms.{upForm, units, set-forms}
 use Rattle.secrecy.proofs.Coalitions.{unit-unseen, member-made}
+use Rattle.secrecy.proofs.Clusters.{rows-none}
+use Rattle.secrecy.proofs.Independence.{Solved, solved}
 use Rattle.secrecy.proofs.Observers.{Observer, Telling, observer-keeps, observer-either}
 
 module _ (P : Pool) (prime : Prime (P .q)) (valid : Vector (P .q) (users P * P .rate) (P .table)) (b : ℕ → Bool) (g : ℕ) where
@@ -68,3 +73,18 @@ module _ (P : Pool) (prime : Prime (P .q)) (valid : Vector (P .q) (users P * P .
     set-either en =
         observer-either P prime valid g (units P g) (users P) b (outside P b g) (upForm P) set-observer (Agree P g) (setView P b g) (set-forms P b g)
         readings (en .symbols) (en .none) (telling readings en)
+
+  -- the rows of all users are not independent, where the table sums to 0: else some source symbols had the product 1 with the first row and 0 with the
+  -- others, and all these products sum to 0
+  pub all-depend : ZeroSum P → 0 < users P → ((i : ℕ) → i < users P → T (outside P b g i))
+      → ¬ (Independent (P .q) (P .rate) (coalitionRows P g) (picked (users P) (outside P b g) (λ i. row P i ∷ [])))
+  all-depend zs some all ind =
+      let v : ℕ → ℕ = at (unit (users P) 0) in
+      let s : Solved (P .q) (P .rate) (coalitionRows P g) (outside P b g) (row P) v (users P)
+      = solved (P .q) prime (P .rate) (coalitionRows P g) (outside P b g) (row P) (coalition-vectors P prime valid g) (row-vector P prime valid)
+      v (users P) ind in
+      let products : ℕ → ℕ = λ i. dotN (row P i) (s .N) in
+      let sum : sumTo (users P) v ≡ 1 = sum-one (users P) v 0 some (at-unit-same (users P) 0 some) (λ i l ne. at-unit-other (users P) 0 i ne) in
+      zero-not-one (P .q) (prime .two)
+      (c-trans (c-sym (rows-none P zs (s .N)))
+      (c-trans (sum-c (users P) products v (λ i l. of-mod (P .q) (products i) (v i) (s .hits i l (all i l)))) (of-eq sum)))

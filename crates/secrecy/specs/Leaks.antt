@@ -11,7 +11,7 @@ use Rattle.matrices.specs.Linear.{Vector}
 use Rattle.matrices.specs.Rank.{anyList, sameList}
 use Rattle.secrecy.specs.Counts.{count}
 use Rattle.lists.specs.Sums.{howMany}
-use Rattle.secrecy.specs.Model.{Pool, users, inCoalition, inCluster, reading, total, view}
+use Rattle.secrecy.specs.Model.{Pool, users, inCoalition, inCluster, inEither, reading, total, setView, serverView, view}
 
 -- "block length L from 1 to 64"
 abbrev pub longest : ℕ
@@ -36,22 +36,38 @@ module _ (P : Pool) where
   agree g zero L W W′ = membersAgree g L W W′ && totalsAgree L W W′
   agree g (suc u) L W W′ = membersAgree g L W W′
 
-  -- how many symbols a view has
+  -- how many symbols a view has: so many shown of each position, with the coalition's readings and keys
   abbrev pub places : ℕ → ℕ → ℕ → ℕ
-  places g zero L = (P .clusters + (howMany (users P) (inCoalition g) + howMany (users P) (inCoalition g))) * L
-  places g (suc u) L = (howMany (users P) (inCluster P u) + (howMany (users P) (inCoalition g) + howMany (users P) (inCoalition g))) * L
+  places shown g L = (shown + (howMany (users P) (inCoalition g) + howMany (users P) (inCoalition g))) * L
 
   -- two sets of readings that agree, and a view, shown by some source key or by none, with unequal numbers
-  unfoldable pub leaksAt : ℕ → ℕ → ℕ → Bool
-  leaksAt g w L =
+  unfoldable pub foundAt : (ℕ → List ℕ → List ℕ → Bool) → (ℕ → ℕ) → (ℕ → List ℕ → List ℕ → List ℕ) → ℕ → Bool
+  foundAt agrees size see L =
       anyList (P .q) (users P * L) (λ W.
       anyList (P .q) (users P * L) (λ W′.
-      agree g w L W W′
-      && anyList (P .q) (places g w L) (λ s. not (eqb (keysShowing (P .q) (P .rate) (view P g w) L W s) (keysShowing (P .q) (P .rate) (view P g w) L W′ s)))))
+      agrees L W W′
+      && anyList (P .q) (size L) (λ s. not (eqb (keysShowing (P .q) (P .rate) see L W s) (keysShowing (P .q) (P .rate) see L W′ s)))))
 
   -- for some L
-  unfoldable pub leaks : ℕ → ℕ → Bool
-  leaks g w = anyTo longest (λ l. leaksAt g w (suc l))
+  unfoldable pub found : (ℕ → List ℕ → List ℕ → Bool) → (ℕ → ℕ) → (ℕ → List ℕ → List ℕ → List ℕ) → Bool
+  found agrees size see = anyTo longest (λ l. foundAt agrees size see (suc l))
+
+  -- what the users that b picks upload leaks, with a coalition
+  abbrev pub setLeaks : (ℕ → Bool) → ℕ → Bool
+  setLeaks b g = found (membersAgree g) (places (howMany (users P) b) g) (setView P b g)
+
+  -- what the relay sums leak
+  abbrev pub sumsLeak : ℕ → Bool
+  sumsLeak g = found (agree g zero) (places (P .clusters) g) (serverView P g)
+
+  -- the pair of coalition g and observer w leaks
+  abbrev pub leaks : ℕ → ℕ → Bool
+  leaks g zero = sumsLeak g
+  leaks g (suc u) = setLeaks (inCluster P u) g
+
+  -- the joint observer of two clusters leaks, with coalition g
+  abbrev pub jointLeaks : ℕ → ℕ → ℕ → Bool
+  jointLeaks u w g = setLeaks (inEither P u w) g
 
 -- ---- as a record
 
@@ -88,3 +104,7 @@ module _ (P : Pool) where
   -- the pair of coalition g and observer w leaks
   abbrev pub PairLeak : ℕ → ℕ → Type 0
   PairLeak g w = Leak (P .q) (P .rate) (Symbols (P .q) (users P)) (Agrees g w) (view P g w)
+
+  -- so does the joint observer of clusters u and w, whose sets of readings agree on the coalition alone
+  abbrev pub JointLeak : ℕ → ℕ → ℕ → Type 0
+  JointLeak u w g = Leak (P .q) (P .rate) (Symbols (P .q) (users P)) (Agree g) (setView P (inEither P u w) g)

@@ -3,7 +3,7 @@
 -- (key block) stands position by position, `rate` symbols each.
 use Prim.Native.Nat.{ℕ, zero, suc, _+_, _*_, _/_, _%_, _<_}
 use mathlib.Core.Path.{_≡_}
-use mathlib.Core.Bool.{Bool}
+use mathlib.Core.Bool.{Bool, _||_}
 use mathlib.Core.List.{List, _++_}
 use lib.Dec.{eqb}
 use Rattle.lists.specs.Bits.{hasBit}
@@ -37,6 +37,11 @@ module _ (P : Pool) where
   -- is user i in cluster u?
   unfoldable pub inCluster : ℕ → ℕ → Bool
   inCluster u i = eqb (i / P .size) u
+
+  -- and in one of two clusters?
+  unfoldable pub inEither : ℕ → ℕ → ℕ → Bool
+  unfolding inCluster
+  inEither u w i = inCluster u i || inCluster w i
 
   -- the sum of column k of the key table; in a zero-sum table it is 0 for each column
   unfoldable pub columnSum : ℕ → ℕ
