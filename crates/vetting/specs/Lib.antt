@@ -4,5 +4,6 @@
 pub mod Walk
 pub mod Vet
 pub mod Length
+pub mod Joint
 pub mod Walking
 pub mod Pools

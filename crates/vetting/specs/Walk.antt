@@ -14,11 +14,15 @@ use Rattle.vetting.specs.declared.Pair.{Pair}
 unfoldable pub observers : ℕ → List ℕ
 observers clusters = tab clusters suc ++ (0 ∷ [])
 
--- U clusters of V users and a limit T: every coalition of at most T of the users, with every observer
-unfoldable pub pairs : ℕ → ℕ → ℕ → List Pair
-pairs clusters size limit =
+-- U clusters of V users and a limit T: every coalition of at most T of the users, with each of some observers
+unfoldable pub pairsWith : List ℕ → ℕ → ℕ → ℕ → List Pair
+pairsWith watching clusters size limit =
     picked (2 ^ (clusters * size)) (λ g. leb (howMany (clusters * size) (inCoalition g)) limit)
-    (λ g. map (λ w. record { coalition = g; observer = w }) (observers clusters))
+    (λ g. map (λ w. record { coalition = g; observer = w }) watching)
+
+-- with every observer
+abbrev pub pairs : ℕ → ℕ → ℕ → List Pair
+pairs clusters size limit = pairsWith (observers clusters) clusters size limit
 
 -- the same said of one pair: a coalition of at most T of the users, and an observer, which is 0 or a relay's number
 pub record InWalk (P : Plan) (g w : ℕ) : Type 0 where

@@ -2,9 +2,9 @@
 -- The vet keeps a reduced table for each depth of a coalition: level k holds the key table, and the sums of its clusters below it, eliminated by the
 -- rows of a coalition of k members.
 use Prim.Native.Nat.{ℕ, zero, suc, _+_, _-_, _*_, _/_, _%_, _^_}
-use mathlib.Core.Bool.{Bool, cond, not, _&&_}
+use mathlib.Core.Bool.{Bool, cond, not, _&&_, _||_}
 use mathlib.Core.List.{List, [], _∷_, _++_}
-use lib.Dec.{eqb}
+use lib.Dec.{eqb, ltb}
 use lib.ListN.{take, drop}
 use Rattle.lists.specs.Lists.{at, tab, joinTo, picked}
 use Rattle.matrices.specs.Tables.{rowOf, eliminated, pivotsFrom}
@@ -18,7 +18,7 @@ use Rattle.vetting.specs.declared.Found.{Found}
 use Rattle.vetting.specs.declared.Walked.{Walked}
 use Rattle.vetting.specs.declared.Found.the-variants.{At, Nothing}
 use Rattle.plans.specs.Plans.{usersOf}
-use Rattle.vetting.specs.Walk.{pairs}
+use Rattle.vetting.specs.Walk.{pairsWith}
 
 -- ---- the table of level 0
 
@@ -94,17 +94,22 @@ unfoldable pub testedMask : ℕ → ℕ → ℕ → ℕ
 testedMask size g zero = 0
 testedMask size g (suc k) = cond (outsiderIn size g k) (outsiderMask size g k) (testedMask size g k)
 
--- the rows of observer w: users of its cluster, or sums of clusters
-abbrev pub watchMask : ℕ → ℕ → ℕ → ℕ → ℕ
-watchMask clusters size g zero = testedMask size g clusters * 2 ^ (clusters * size)
-watchMask clusters size g (suc u) = clusterMask size u
+-- the users below k that are in one of two clusters
+unfoldable pub jointMask : ℕ → ℕ → ℕ → ℕ → ℕ
+jointMask size a b k = sumTo k (λ i. cond (eqb (i / size) a || eqb (i / size) b) (2 ^ i) 0)
+
+-- the rows of observer w: of the server, 0, sums of clusters, of relay w the users of its cluster, and of the joint observer, whose number comes after the
+-- relays', the users of a mask
+abbrev pub watchMask : ℕ → ℕ → ℕ → ℕ → ℕ → ℕ
+watchMask clusters size both g zero = testedMask size g clusters * 2 ^ (clusters * size)
+watchMask clusters size both g (suc u) = cond (ltb u clusters) (clusterMask size u) both
 
 -- ---- the walk
 
 -- do the rows that w watches, outside g, depend on each other over the rows of g?
-abbrev pub hit : Plan → List ℕ → ℕ → ℕ → Bool
-hit P T g w =
-    dependent (P .q) (rowsIn P) (P .rate) (watchMask (P .clusters) (P .size) g w) g (tableOf (P .q) (rowsIn P) (P .rate) T g)
+abbrev pub hit : Plan → ℕ → List ℕ → ℕ → ℕ → Bool
+hit P both T g w =
+    dependent (P .q) (rowsIn P) (P .rate) (watchMask (P .clusters) (P .size) both g w) g (tableOf (P .q) (rowsIn P) (P .rate) T g)
 
 -- what a walk found, and how many pairs it looked at
 abbrev pub walk : Found → ℕ → Walked
@@ -115,8 +120,14 @@ unfoldable pub firstHit : (ℕ → ℕ → Bool) → ℕ → List Pair → Walke
 firstHit f n [] = walk Nothing n
 firstHit f n (p ∷ l) = cond (f (p .coalition) (p .observer)) (walk (At p) (n + 1)) (firstHit f (n + 1) l)
 
-abbrev pub walked : Plan → List ℕ → Walked
-walked P T = firstHit (hit P T) 0 (pairs (P .clusters) (P .size) (P .limit))
+-- a walk with some observers
+abbrev pub walked : Plan → ℕ → List ℕ → List ℕ → Walked
+walked P both watching T = firstHit (hit P both T) 0 (pairsWith watching (P .clusters) (P .size) (P .limit))
+
+-- the code of what the walk with the joint observer finds
+abbrev pub jointFound : Found → Code
+jointFound (At p) = record { number = 19; first = p .coalition; second = 0 }
+jointFound Nothing = accepted
 
 -- the code of what the walk finds
 abbrev pub foundCode : Found → Code
