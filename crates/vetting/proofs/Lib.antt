@@ -14,4 +14,6 @@ mod Deciding
 pub mod ExactSecrecy
 pub mod Looking
 pub mod OneCount
+pub mod JointLaws
+pub mod JointTheorems
 pub mod PlanLaws

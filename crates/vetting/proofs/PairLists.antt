@@ -13,15 +13,16 @@ use Rattle.lists.proofs.Searches.{true→T}
 use Rattle.lists.specs.Lists.{All, tab, joinTo, picked}
 use Rattle.lists.proofs.Binomials.{sets-count}
 use Rattle.lists.proofs.Joins.{length-lists}
-use Rattle.lists.proofs.ListLaws.{length-tab}
+use Rattle.lists.proofs.ListLaws.{length-tab, all-picked, map-picked}
 use Rattle.lists.proofs.Members.{all-append, all-left, all-right}
 use Rattle.lists.specs.Sums.{sumTo, howMany, binomial}
 use Rattle.secrecy.specs.Model.{inCoalition}
 use Rattle.plans.specs.declared.Plan.{Plan}
 use Rattle.vetting.specs.declared.Pair.{Pair}
 use Rattle.plans.specs.Plans.{usersOf}
-use Rattle.vetting.specs.Walk.{observers, pairs, InWalk}
+use Rattle.vetting.specs.Walk.{observers, pairsWith, pairs, InWalk}
 use Rattle.vetting.specs.Length.{pairCount}
+use Rattle.vetting.specs.Joint.{coalitions}
 
 module _ {A : Type 0} (Q : A → Type 0) where
   all-tab : (n : ℕ) (f : ℕ → ℕ) (h : ℕ → A) → ((k : ℕ) → k < n → Q (h (f k))) → All Q (map h (tab n f))
@@ -62,13 +63,13 @@ abbrev pairOf : ℕ → ℕ → Pair
 pairOf g w = record { coalition = g; observer = w }
 
 -- each relay, and the server
-observers-length : (clusters : ℕ) → length (observers clusters) ≡ clusters + 1
+pub observers-length : (clusters : ℕ) → length (observers clusters) ≡ clusters + 1
 unfolding observers
 observers-length clusters = length-append (tab clusters suc) (0 ∷ []) ∙ ap (λ (z : ℕ). z + 1) (length-tab clusters suc)
 
 -- how many pairs there are
 pub pairs-length : (clusters size limit : ℕ) → length (pairs clusters size limit) ≡ pairCount clusters size limit
-unfolding pairs pairCount
+unfolding pairsWith pairCount
 pairs-length clusters size limit =
     let n : ℕ = clusters * size in
     length-lists (2 ^ n) (clusters + 1) (λ g. leb (howMany n (inCoalition g)) limit) (λ g. map (pairOf g) (observers clusters))
@@ -77,12 +78,13 @@ pairs-length clusters size limit =
     ∙ mul-comm (sumTo (limit + 1) (binomial n)) (clusters + 1)
 
 module _ (P : Plan) where
-  abbrev within : ℕ → Bool
+  -- is a coalition within the limit?
+  abbrev pub within : ℕ → Bool
   within g = leb (howMany (usersOf P) (inCoalition g)) (P .limit)
 
   -- each pair of the walk is one of these
   pub pairs-in : All (λ p. InWalk P (p .coalition) (p .observer)) (pairs (P .clusters) (P .size) (P .limit))
-  unfolding pairs observers
+  unfolding pairsWith observers
   pairs-in =
       all-lists (λ p. InWalk P (p .coalition) (p .observer)) (2 ^ usersOf P) within (λ g. map (pairOf g) (observers (P .clusters)))
       (λ g l t.
@@ -95,7 +97,7 @@ module _ (P : Plan) where
 
   -- and each of these is a pair of the walk: it has what all of them have
   pub in-pairs : (Q : Pair → Type 0) → All Q (pairs (P .clusters) (P .size) (P .limit)) → (g w : ℕ) → InWalk P g w → Q (record { coalition = g; observer = w })
-  unfolding pairs observers
+  unfolding pairsWith observers
   in-pairs Q a g w i =
       here w (i .observer)
       (subst (All Q) (map-append (pairOf g) (tab (P .clusters) suc) (0 ∷ []))
@@ -106,3 +108,18 @@ module _ (P : Plan) where
       here zero h a = all-right Q (map (pairOf g) (tab (P .clusters) suc)) (pairOf g 0 ∷ []) a .0
       here (suc k) h a =
           tab-all Q (P .clusters) suc (pairOf g) (all-left Q (map (pairOf g) (tab (P .clusters) suc)) (pairOf g 0 ∷ []) a) k h
+
+  -- ---- the coalitions, each with one observer
+
+  -- what holds of each coalition with it, holds of each such pair
+  pub all-with : (w : ℕ) (Q : Pair → Type 0) → ((g : ℕ) → g < 2 ^ usersOf P → Q (record { coalition = g; observer = w }))
+      → All Q (pairsWith (w ∷ []) (P .clusters) (P .size) (P .limit))
+  unfolding pairsWith
+  all-with w Q h = all-picked Q (2 ^ usersOf P) within (λ g. pairOf g w) (λ g l t. h g l)
+
+  -- what is made of the coalitions of such pairs is made of the coalitions
+  pub map-with : {A : Type 0} (w : ℕ) (f : ℕ → A)
+      → map (λ p. f (p .coalition)) (pairsWith (w ∷ []) (P .clusters) (P .size) (P .limit)) ≡ map f (coalitions (usersOf P) (P .limit))
+  unfolding pairsWith coalitions
+  map-with w f =
+      map-picked (2 ^ usersOf P) within (λ p. f (p .coalition)) (λ g. pairOf g w) ∙ sym (map-picked (2 ^ usersOf P) within f (λ g. g))

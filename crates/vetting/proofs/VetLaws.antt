@@ -1,8 +1,8 @@
 -- The verdict from its parts: what is known of a plan and a table that passed, and the columns.
 use mathlib.Core.Path.{_≡_, refl, sym, ap, _∙_}
-use mathlib.Core.List.{List, map}
+use mathlib.Core.List.{List, [], _∷_, map}
 use mathlib.Core.Logic.{_≢_}
-use Prim.Native.Nat.{ℕ, zero, suc, _+_, _^_, _≤_, _<_, suc-le-suc}
+use Prim.Native.Nat.{ℕ, zero, suc, _+_, _-_, _^_, _≤_, _<_, suc-le-suc}
 use native.Mathlib.Nat.{not-suc-le-zero, le-of-suc-le-suc, zero-lt-suc}
 use native.Mathlib.Decide.{decLt}
 use native.Mathlib.Omega.{arith}
@@ -17,12 +17,13 @@ use Rattle.plans.specs.declared.Plan.{Plan}
 use Rattle.plans.specs.Plans.{usersOf}
 use Rattle.vetting.specs.Pools.{poolOf}
 use Rattle.plans.proofs.TableLaws.{Passed, table-passed}
-use Rattle.vetting.specs.Walk.{pairs}
+use Rattle.vetting.specs.Walk.{observers, pairs}
 use Rattle.vetting.specs.Vet.{columnCheck, leakCheck, otherChecks, vetCode, columnChecks}
 use Rattle.vetting.specs.Length.{lookedAt}
-use Rattle.vetting.specs.Walking.{baseTable, hit, walked, foundCode}
+use Rattle.vetting.specs.Joint.{coalitions, jointCheck}
+use Rattle.vetting.specs.Walking.{baseTable, jointMask, hit, walked, jointFound, foundCode}
 use Rattle.refusals.proofs.Orders.{rest-decides}
-use Rattle.vetting.proofs.Deciding.{pair-verdict, found-verdict, found-place}
+use Rattle.vetting.proofs.Deciding.{pair-verdict, found-verdict, found-place, joint-first}
 
 -- ---- columns
 
@@ -70,21 +71,26 @@ module _ (P : Plan) (K : List ℕ) where
     all-numbered : T (numbered (otherChecks P K))
     all-numbered = columns-numbered (P .rate) (λ k. k)
 
-    passed : Passed P K
+    pub passed : Passed P K
     passed = table-passed P K (columnChecks P K) all-numbered e
 
     -- what the test on one pair says
-    pub walk-pair : (g w : ℕ) → g < 2 ^ usersOf P → w ≤ P .clusters → hit P (baseTable P K) g w ≡ leaks (poolOf P K) g w
+    pub walk-pair : (both g w : ℕ) → g < 2 ^ usersOf P → w ≤ P .clusters → hit P both (baseTable P K) g w ≡ leaks (poolOf P K) g w
     walk-pair = pair-verdict P K (passed .bounds) (passed .size) (passed .prime) (passed .below) (columns-passed e)
 
     -- what the walk finds
-    pub walk-code : foundCode (walked P (baseTable P K) .found) ≡ vetCode P K
+    pub walk-code : foundCode (walked P 0 (observers (P .clusters)) (baseTable P K) .found) ≡ vetCode P K
     walk-code =
         found-verdict P K (passed .bounds) (passed .size) (passed .prime) (passed .below) (columns-passed e)
         ∙ rest-decides (otherChecks P K) (map (leakCheck P K) (pairs (P .clusters) (P .size) (P .limit))) all-numbered e
 
     -- and how many pairs it looks at
-    pub walk-looked : walked P (baseTable P K) .looked ≡ lookedAt P K
+    pub walk-looked : walked P 0 (observers (P .clusters)) (baseTable P K) .looked ≡ lookedAt P K
     walk-looked =
         found-place P K (passed .bounds) (passed .size) (passed .prime) (passed .below) (columns-passed e)
         ∙ sym (accepted-takes (firstOf (otherChecks P K)) _ 0 e)
+
+    -- what the walk with the joint observer of two relays finds
+    pub joint-found : (a b : ℕ) → jointFound (walked P (jointMask (P .size) (a - 1) (b - 1) (usersOf P)) ((P .clusters + 1) ∷ []) (baseTable P K) .found)
+        ≡ firstOf (map (jointCheck P K a b) (coalitions (usersOf P) (P .limit)))
+    joint-found = joint-first P K (passed .bounds) (passed .size) (passed .prime) (passed .below) (columns-passed e)

@@ -2,9 +2,9 @@
 use mathlib.Core.Path.{_≡_, refl, sym, ap, ap₂, _∙_, subst}
 use mathlib.Core.Bool.{Bool, true, false, cond}
 use mathlib.Core.List.{List, [], _∷_, _++_, map, append-assoc, append-nil}
-use Prim.Native.Nat.{ℕ, zero, suc, _+_, _-_, _*_, _/_, _%_, _^_, _≤_, _<_}
-use native.Mathlib.Nat.{div-mul-le-self, zero-div, zero-mul, div-one, mul-one, zero-add, mod-self, mod-eq-of-lt}
-use native.Mathlib.Numerals.{add-one, one-add}
+use Prim.Native.Nat.{ℕ, zero, suc, _+_, _-_, _*_, _/_, _^_, _≤_, _<_}
+use native.Mathlib.Nat.{div-mul-le-self, zero-div, zero-mul, div-one, mul-one, zero-add}
+use native.Mathlib.Numerals.{add-one}
 use native.Mathlib.Decide.{decLt}
 use native.Mathlib.Omega.{arith}
 use lib.Dec.{leb}
@@ -12,16 +12,15 @@ use lib.Count.{ones, ones-le, trailingZeros}
 use lib.Pow.{pow-pos}
 use borrow.Author.Tests.{le-leb, lt-leb}
 use lib.ListN.{length, take, drop, length-append, length-drop}
-use lib.Seq.{length-take-le}
+use lib.Seq.{length-take-le, drop-cons}
 use Rattle.matrices.specs.Tables.{eliminated}
 use Rattle.matrices.proofs.Elimination.{eliminated-length}
-use Rattle.lists.specs.Lists.{tab, joinTo, picked}
+use Rattle.lists.specs.Lists.{at, joinTo, picked}
 use Rattle.lists.specs.Sums.{howMany}
 use Rattle.secrecy.specs.Model.{inCoalition}
-use Rattle.lists.proofs.ListLaws.{tab-cong}
 use Rattle.vetting.specs.declared.Pair.{Pair}
 use Rattle.vetting.specs.declared.Found.the-variants.{At, Nothing}
-use Rattle.vetting.specs.Walk.{observers, pairs}
+use Rattle.vetting.specs.Walk.{pairsWith}
 use Rattle.vetting.specs.Walking.{levelAt, descended, reducedBy, tableOf, walk, firstHit, levelSize, levelsSize, mostRows}
 use Rattle.lists.proofs.BitLaws.{low-cleared, low-ones, cleared-fewer, cleared-next, ones-many}
 use Rattle.vetting.proofs.MemberLaws.{members-next, members-none}
@@ -167,32 +166,11 @@ module _ (q rows cols t : ℕ) (T L : List ℕ) where
 abbrev pub pairOf : ℕ → ℕ → Pair
 pairOf g w = record { coalition = g; observer = w }
 
--- k observers from w on: relays as they are, and the server after the last
-unfoldable pub observersFrom : ℕ → ℕ → ℕ → List ℕ
-observersFrom clusters zero w = []
-observersFrom clusters (suc k) w = w % (clusters + 1) ∷ observersFrom clusters k (w + 1)
-
-observers-tab : (clusters k w : ℕ) → w + k ≡ clusters + 1 → observersFrom clusters (suc k) w ≡ tab k (λ j. w + j) ++ (0 ∷ [])
-unfolding observersFrom tab
-observers-tab clusters zero w e =
-    ap (λ (x : ℕ). x ∷ []) (ap (λ (x : ℕ). x % (clusters + 1)) {x = w} {y = clusters + 1} (omega arith) ∙ mod-self (clusters + 1))
-observers-tab clusters (suc k) w e =
-    ap₂ (λ (x : ℕ) (l : List ℕ). x ∷ l)
-    (mod-eq-of-lt {n = w} (omega arith) ∙ omega arith)
-    (observers-tab clusters k (w + 1) (omega arith) ∙ ap (λ (l : List ℕ). l ++ (0 ∷ [])) (tab-cong k (λ j. w + 1 + j) (λ j. w + suc j) (λ j l. omega arith)))
-
-pub observers-are : (clusters : ℕ) → observersFrom clusters (clusters + 1) 1 ≡ observers clusters
-unfolding observers
-observers-are clusters =
-    ap (λ (k : ℕ). observersFrom clusters k 1) (add-one clusters)
-    ∙ observers-tab clusters clusters 1 (omega arith)
-    ∙ ap (λ (l : List ℕ). l ++ (0 ∷ [])) (tab-cong clusters (λ j. 1 + j) suc (λ j l. one-add j))
-
 -- the pairs of k coalitions from g on
-unfoldable pub pairsFrom : ℕ → ℕ → ℕ → ℕ → ℕ → List Pair
-pairsFrom n limit clusters zero g = []
-pairsFrom n limit clusters (suc k) g =
-    cond (leb (howMany n (inCoalition g)) limit) (map (pairOf g) (observers clusters)) [] ++ pairsFrom n limit clusters k (g + 1)
+unfoldable pub pairsFrom : ℕ → ℕ → List ℕ → ℕ → ℕ → List Pair
+pairsFrom n limit watching zero g = []
+pairsFrom n limit watching (suc k) g =
+    cond (leb (howMany n (inCoalition g)) limit) (map (pairOf g) watching) [] ++ pairsFrom n limit watching k (g + 1)
 
 join-front : {A : Type 0} (n : ℕ) (f : ℕ → List A) → joinTo (suc n) f ≡ f 0 ++ joinTo n (λ k. f (suc k))
 unfolding joinTo
@@ -204,21 +182,22 @@ unfolding joinTo
 join-cong zero f h e = refl
 join-cong (suc k) f h e = ap₂ _++_ (join-cong k f h e) (e k)
 
-pairs-join : (n limit clusters k g : ℕ)
-    → joinTo k (λ i. cond (leb (howMany n (inCoalition (g + i))) limit) (map (pairOf (g + i)) (observers clusters)) []) ≡ pairsFrom n limit clusters k g
+pairs-join : (n limit : ℕ) (watching : List ℕ) (k g : ℕ)
+    → joinTo k (λ i. cond (leb (howMany n (inCoalition (g + i))) limit) (map (pairOf (g + i)) watching) []) ≡ pairsFrom n limit watching k g
 unfolding pairsFrom joinTo
-pairs-join n limit clusters zero g = refl
-pairs-join n limit clusters (suc k) g =
-    let F : ℕ → List Pair = λ x. cond (leb (howMany n (inCoalition x)) limit) (map (pairOf x) (observers clusters)) [] in
+pairs-join n limit watching zero g = refl
+pairs-join n limit watching (suc k) g =
+    let F : ℕ → List Pair = λ x. cond (leb (howMany n (inCoalition x)) limit) (map (pairOf x) watching) [] in
     join-front k (λ i. F (g + i))
     ∙ ap₂ _++_ (ap F {x = g + 0} {y = g} (omega arith))
-    (join-cong k (λ i. F (g + suc i)) (λ i. F (g + 1 + i)) (λ i. ap F {x = g + suc i} {y = g + 1 + i} (omega arith)) ∙ pairs-join n limit clusters k (g + 1))
+    (join-cong k (λ i. F (g + suc i)) (λ i. F (g + 1 + i)) (λ i. ap F {x = g + suc i} {y = g + 1 + i} (omega arith)) ∙ pairs-join n limit watching k (g + 1))
 
-pub pairs-are : (clusters size limit : ℕ) → pairsFrom (clusters * size) limit clusters (2 ^ (clusters * size)) 0 ≡ pairs clusters size limit
-unfolding pairs picked
-pairs-are clusters size limit =
-    let F : ℕ → List Pair = λ x. cond (leb (howMany (clusters * size) (inCoalition x)) limit) (map (pairOf x) (observers clusters)) [] in
-    sym (pairs-join (clusters * size) limit clusters (2 ^ (clusters * size)) 0)
+pub pairs-are : (watching : List ℕ) (clusters size limit : ℕ)
+    → pairsFrom (clusters * size) limit watching (2 ^ (clusters * size)) 0 ≡ pairsWith watching clusters size limit
+unfolding pairsWith picked
+pairs-are watching clusters size limit =
+    let F : ℕ → List Pair = λ x. cond (leb (howMany (clusters * size) (inCoalition x)) limit) (map (pairOf x) watching) [] in
+    sym (pairs-join (clusters * size) limit watching (2 ^ (clusters * size)) 0)
     ∙ join-cong (2 ^ (clusters * size)) (λ i. F (0 + i)) F (λ i. ap F (zero-add i))
 
 -- ---- the first hit of what is left
@@ -237,33 +216,25 @@ unfolding firstHit
 hit-none f n = refl
 
 -- one observer more
-pub observers-next : (clusters w : ℕ) → w ≤ clusters + 1 → observersFrom clusters (clusters + 2 - w) w ≡ w % (clusters + 1) ∷ observersFrom clusters
-    (clusters + 2 - (w + 1)) (w + 1)
-unfolding observersFrom
-observers-next clusters w h =
-    ap (λ (k : ℕ). observersFrom clusters k w) {x = clusters + 2 - w} {y = suc (clusters + 2 - (w + 1))} (omega arith)
-
-pub observers-none : (clusters w : ℕ) → clusters + 1 < w → observersFrom clusters (clusters + 2 - w) w ≡ []
-unfolding observersFrom
-observers-none clusters w h = ap (λ (k : ℕ). observersFrom clusters k w) {x = clusters + 2 - w} {y = 0} (omega arith)
+pub observers-next : (watching : List ℕ) (w : ℕ) → w < length watching → drop w watching ≡ at watching w ∷ drop (w + 1) watching
+observers-next watching w h = drop-cons watching w 0 h ∙ ap (λ (k : ℕ). at watching w ∷ drop k watching) (sym (add-one w))
 
 -- one coalition more: with its observers where it has at most the limit's members, with none where it has more
-module _ (n limit clusters g : ℕ) (below : g < 2 ^ n) where
+module _ (n limit : ℕ) (watching : List ℕ) (g : ℕ) (below : g < 2 ^ n) where
   pairs-one : (t : Bool) → leb (ones g) limit ≡ t
-      → pairsFrom n limit clusters (2 ^ n - g) g ≡ cond t (map (pairOf g) (observers clusters)) [] ++ pairsFrom n limit clusters (2 ^ n - (g + 1)) (g + 1)
+      → pairsFrom n limit watching (2 ^ n - g) g ≡ cond t (map (pairOf g) watching) [] ++ pairsFrom n limit watching (2 ^ n - (g + 1)) (g + 1)
   unfolding pairsFrom
   pairs-one t e =
-      ap (λ (k : ℕ). pairsFrom n limit clusters k g) {x = 2 ^ n - g} {y = suc (2 ^ n - (g + 1))} (omega arith)
-      ∙ ap (λ (b : Bool). cond b (map (pairOf g) (observers clusters)) [] ++ pairsFrom n limit clusters (2 ^ n - (g + 1)) (g + 1))
+      ap (λ (k : ℕ). pairsFrom n limit watching k g) {x = 2 ^ n - g} {y = suc (2 ^ n - (g + 1))} (omega arith)
+      ∙ ap (λ (b : Bool). cond b (map (pairOf g) watching) [] ++ pairsFrom n limit watching (2 ^ n - (g + 1)) (g + 1))
       (ap (λ (m : ℕ). leb m limit) (sym (ones-many n g below)) ∙ e)
 
-  pub pairs-kept : ones g ≤ limit → pairsFrom n limit clusters (2 ^ n - g) g ≡ map (pairOf g) (observers clusters) ++ pairsFrom n limit clusters
-      (2 ^ n - (g + 1)) (g + 1)
+  pub pairs-kept : ones g ≤ limit → pairsFrom n limit watching (2 ^ n - g) g ≡ map (pairOf g) watching ++ pairsFrom n limit watching (2 ^ n - (g + 1)) (g + 1)
   pairs-kept h = pairs-one true (le-leb (ones g) limit h)
 
-  pub pairs-skipped : limit < ones g → pairsFrom n limit clusters (2 ^ n - g) g ≡ pairsFrom n limit clusters (2 ^ n - (g + 1)) (g + 1)
+  pub pairs-skipped : limit < ones g → pairsFrom n limit watching (2 ^ n - g) g ≡ pairsFrom n limit watching (2 ^ n - (g + 1)) (g + 1)
   pairs-skipped h = pairs-one false (lt-leb (ones g) limit h)
 
-pub pairs-end : (n limit clusters k g : ℕ) → k ≡ 0 → pairsFrom n limit clusters k g ≡ []
+pub pairs-end : (n limit : ℕ) (watching : List ℕ) (k g : ℕ) → k ≡ 0 → pairsFrom n limit watching k g ≡ []
 unfolding pairsFrom
-pairs-end n limit clusters k g e = ap (λ (x : ℕ). pairsFrom n limit clusters x g) e
+pairs-end n limit watching k g e = ap (λ (x : ℕ). pairsFrom n limit watching x g) e

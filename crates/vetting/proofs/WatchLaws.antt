@@ -1,11 +1,12 @@
--- The rows that the masks choose are those of the condition on ranks: a relay's users outside the coalition, and the sums of the open clusters
--- before the last.
+-- The rows that the masks choose are those of the condition on ranks: a relay's users outside the coalition, the sums of the open clusters before the
+-- last, and the users of two clusters outside the coalition.
 use mathlib.Core.Path.{_≡_, refl, sym, ap, ap₂, _∙_}
 use mathlib.Core.Logic.{_⊎_, inl, inr}
 use mathlib.Core.Bool.{Bool, true, false, cond, not, _&&_, _||_, and-true, and-false, or-true, or-false}
 use mathlib.Core.List.{List, [], _∷_, _++_, append-nil}
 use Prim.Native.Nat.{ℕ, zero, suc, _+_, _-_, _*_, _/_, _%_, _^_, _≤_, _<_}
 use native.Mathlib.Nat.{mul-le-mul, div-div-eq-div-mul, div-add-mod', div-eq-of-lt-le, mod-lt}
+use native.Mathlib.Numerals.{add-one}
 use native.Mathlib.Decide.{decLt}
 use native.Mathlib.Omega.{arith}
 use lib.Dec.{lit<, eqb, ltb, leb, ltb→lt}
@@ -15,9 +16,9 @@ use Rattle.lists.specs.Search.{anyTo, allTo}
 use Rattle.lists.proofs.Searches.{T-and, any-found, not-T→false}
 use Rattle.lists.specs.Bits.{hasBit}
 use Rattle.lists.specs.Lists.{picked}
-use Rattle.secrecy.specs.Model.{Pool, users, inCoalition, inCluster}
+use Rattle.secrecy.specs.Model.{Pool, users, inCoalition, inCluster, inEither}
 use Rattle.secrecy.proofs.RankCondition.{outside, hasOutsider, tested}
-use Rattle.vetting.specs.Walking.{chosen, clusterMask, outsiderIn, outsiderMask, testedMask, watchMask}
+use Rattle.vetting.specs.Walking.{chosen, clusterMask, outsiderIn, outsiderMask, testedMask, jointMask, watchMask}
 use Rattle.lists.proofs.BitLaws.{lt-or-ge, mask-bits, mask-under, mask-from, mask-has, bit-above, all-ones}
 use Rattle.vetting.proofs.PickedLaws.{picked-cong, picked-nothing, picked-split}
 
@@ -119,18 +120,23 @@ cluster-is P u i s = mask-bits (P .size) (u * P .size) i ∙ go (lt-or-ge i (u *
 -- ---- what is watched
 
 module _ (P : Pool) (g : ℕ) (low : g < 2 ^ users P) (f : ℕ → List ℕ) where
-  abbrev pub watchedBy : ℕ → List (List ℕ)
-  watchedBy w = picked (users P + P .clusters) (chosen (watchMask (P .clusters) (P .size) g w) g) (λ i. f i ∷ [])
+  -- the rows of a mask outside the coalition
+  abbrev ofMask : ℕ → List (List ℕ)
+  ofMask m = picked (users P + P .clusters) (chosen m g) (λ i. f i ∷ [])
+
+  -- with the joint observer's mask `both`
+  abbrev pub watchedBy : ℕ → ℕ → List (List ℕ)
+  watchedBy both w = ofMask (watchMask (P .clusters) (P .size) both g w)
 
   -- the rows from number `users` on are the clusters'
-  split : (w : ℕ) → watchedBy w ≡ picked (users P) (chosen (watchMask (P .clusters) (P .size) g w) g) (λ i. f i ∷ [])
-      ++ picked (P .clusters) (λ u. chosen (watchMask (P .clusters) (P .size) g w) g (users P + u)) (λ u. f (users P + u) ∷ [])
-  split w = picked-split (users P) (P .clusters) (chosen (watchMask (P .clusters) (P .size) g w) g) (λ i. f i ∷ [])
+  split : (m : ℕ) → ofMask m ≡ picked (users P) (chosen m g) (λ i. f i ∷ [])
+      ++ picked (P .clusters) (λ u. chosen m g (users P + u)) (λ u. f (users P + u) ∷ [])
+  split m = picked-split (users P) (P .clusters) (chosen m g) (λ i. f i ∷ [])
 
-  pub server-watches : watchedBy 0 ≡ picked (P .clusters) (tested P g) (λ u. f (users P + u) ∷ [])
-  server-watches =
+  pub server-watches : (both : ℕ) → watchedBy both 0 ≡ picked (P .clusters) (tested P g) (λ u. f (users P + u) ∷ [])
+  server-watches both =
       let m : ℕ = testedMask (P .size) g (P .clusters) in
-      split 0
+      split (m * 2 ^ users P)
       ∙ ap₂ _++_
       (picked-nothing (users P) (chosen (m * 2 ^ users P) g) (λ i. f i ∷ [])
       (λ i l. ap (λ (x : Bool). x && not (inCoalition g i)) (mask-under m (users P) i l)))
@@ -140,19 +146,39 @@ module _ (P : Pool) (g : ℕ) (low : g < 2 ^ users P) (f : ℕ → List ℕ) whe
       ∙ and-true (tested P g u))
       (λ u l. refl))
 
-  pub relay-watches : (u : ℕ) → u < P .clusters → 1 ≤ P .size → watchedBy (suc u) ≡ picked (users P) (outside P (inCluster P u) g) (λ i. f i ∷ [])
+  -- a mask of users
+  of-users : (m : ℕ) (b : ℕ → Bool) → ((i : ℕ) → i < users P → inCoalition m i ≡ b i) → ((i : ℕ) → users P ≤ i → inCoalition m i ≡ false)
+      → ofMask m ≡ picked (users P) (outside P b g) (λ i. f i ∷ [])
   unfolding outside
-  relay-watches u h s =
-      let last : u * P .size + P .size ≤ users P = omega (arith, mul-le-mul {n₁ = suc u} {m₁ = P .size} {n₂ = P .clusters} {m₂ = P .size} h (omega arith)) in
-      split (suc u)
+  of-users m b is none =
+      split m
       ∙ ap₂ _++_
-      (picked-cong (users P) (chosen (clusterMask (P .size) u) g) (outside P (inCluster P u) g) (λ i. f i ∷ []) (λ i. f i ∷ [])
-      (λ i l. ap (λ (x : Bool). x && not (inCoalition g i)) (cluster-is P u i s))
+      (picked-cong (users P) (chosen m g) (outside P b g) (λ i. f i ∷ []) (λ i. f i ∷ [])
+      (λ i l. ap (λ (x : Bool). x && not (inCoalition g i)) (is i l))
       (λ i l. refl))
-      (picked-nothing (P .clusters) (λ x. chosen (clusterMask (P .size) u) g (users P + x)) (λ x. f (users P + x) ∷ [])
-      (λ x l.
-      ap (λ (y : Bool). y && not (inCoalition g (users P + x)))
-      (mask-bits (P .size) (u * P .size) (users P + x)
-      ∙ ap (λ (y : Bool). leb (u * P .size) (users P + x) && y) (le-ltb (users P + x) (u * P .size + P .size) (omega arith))
-      ∙ and-false (leb (u * P .size) (users P + x)))))
-      ∙ append-nil (picked (users P) (outside P (inCluster P u) g) (λ i. f i ∷ []))
+      (picked-nothing (P .clusters) (λ u. chosen m g (users P + u)) (λ u. f (users P + u) ∷ [])
+      (λ u l. ap (λ (x : Bool). x && not (inCoalition g (users P + u))) (none (users P + u) (omega arith))))
+      ∙ append-nil (picked (users P) (outside P b g) (λ i. f i ∷ []))
+
+  pub relay-watches : (both u : ℕ) → u < P .clusters → 1 ≤ P .size → watchedBy both (suc u) ≡ picked (users P) (outside P (inCluster P u) g) (λ i. f i ∷ [])
+  relay-watches both u h s =
+      let last : u * P .size + P .size ≤ users P = omega (arith, mul-le-mul {n₁ = suc u} {m₁ = P .size} {n₂ = P .clusters} {m₂ = P .size} h (omega arith)) in
+      ap (λ (t : Bool). ofMask (cond t (clusterMask (P .size) u) both)) (lt-ltb u (P .clusters) h)
+      ∙ of-users (clusterMask (P .size) u) (inCluster P u) (λ i l. cluster-is P u i s)
+      (λ i l.
+      mask-bits (P .size) (u * P .size) i
+      ∙ ap (λ (y : Bool). leb (u * P .size) i && y) (le-ltb i (u * P .size + P .size) (omega arith))
+      ∙ and-false (leb (u * P .size) i))
+
+  -- the joint observer of clusters a and b: their users outside the coalition
+  pub joint-watches : (a b : ℕ) → watchedBy (jointMask (P .size) a b (users P)) (P .clusters + 1)
+      ≡ picked (users P) (outside P (inEither P a b) g) (λ i. f i ∷ [])
+  unfolding jointMask inEither inCluster
+  joint-watches a b =
+      let both : ℕ = jointMask (P .size) a b (users P) in
+      let bits : (i : ℕ) → inCoalition both i ≡ (ltb i (users P) && inEither P a b i) = mask-has (inEither P a b) (users P) in
+      ap (watchedBy both) (add-one (P .clusters))
+      ∙ ap (λ (t : Bool). ofMask (cond t (clusterMask (P .size) (P .clusters)) both)) (le-ltb (P .clusters) (P .clusters) (omega arith))
+      ∙ of-users both (inEither P a b)
+      (λ i l. bits i ∙ ap (λ (t : Bool). t && inEither P a b i) (lt-ltb i (users P) l))
+      (λ i l. bits i ∙ ap (λ (t : Bool). t && inEither P a b i) (le-ltb i (users P) l))

@@ -1,6 +1,7 @@
 // Vetting: the exact verdict on the secrecy of a plan.
 mod checks;
 mod length;
+mod under_lock;
 mod walk;
 
 pub use checks::vet;
@@ -8,6 +9,7 @@ pub use checks::vet_counted;
 pub use length::count_pairs;
 use refusals::Refusal;
 use refusals::Verdict;
+pub use under_lock::vet_joint;
 
 // A coalition, and an observer: relay 1 to U, or 0 for the server.
 pub struct Pair {
@@ -31,6 +33,12 @@ pub struct Walked {
 pub struct Report {
     pub verdict: Verdict,
     pub looked: u32,
+}
+
+// Relays that stand under one lock, if any do: two, the lower number first.
+pub enum Joint {
+    None,
+    Relays { first: usize, second: usize },
 }
 
 // How many pairs there are.

@@ -10,7 +10,7 @@ ghost use Rattle.lists.specs.Lists.{at, tab, joinTo, picked};
 ghost use Rattle.matrices.specs.Tables.{rowOf};
 ghost use Rattle.lists.specs.Sums.{sumTo, howMany};
 ghost use Rattle.plans.specs.Plans.{plan, usersOf, inBounds};
-ghost use Rattle.vetting.specs.Walking.{mostRows, levelsSize, chosen, clusterMask, outsiderIn, testedMask, watchMask};
+ghost use Rattle.vetting.specs.Walking.{mostRows, levelsSize, chosen, clusterMask, outsiderIn, testedMask, jointMask, watchMask};
 ghost use Rattle.vetting.specs.Walking.{clusterSum, baseTable, levelAt, descended, dependent, walked};
 use crate::Found;
 use crate::Pair;
@@ -78,16 +78,36 @@ fn tested_mask(clusters: u32, size: u32, g: u32) -> u32
     tested
 }
 
-// The rows that an observer watches: users of its cluster, or for the server sums of clusters, which stand after the users.
-fn watch_mask(clusters: u32, size: u32, g: u32, w: u32) -> u32
-    requires { ⌜ (clusters ≤ 8) × (size ≤ 8) × (clusters * size ≤ 16) × (w ≤ clusters) ⌝ }
-    ensures { λ r. ⌜ r ≡ watchMask clusters size g w ⌝ }
+// The users of two clusters, from 0: those whom their joint observer watches.
+pub(crate) fn joint_mask(users: u32, size: u32, first: u32, second: u32) -> u32
+    requires { ⌜ (users ≤ 16) × (1 ≤ size) ⌝ }
+    ensures { λ r. ⌜ r ≡ jointMask size first second users ⌝ }
+{
+    let mut mask: u32 = 0;
+    let mut i: u32 = 0;
+    while i < users {
+        let u = i / size;
+        if u == first || u == second {
+            mask = mask + (1 << i);
+        }
+        i += 1;
+    }
+    mask
+}
+
+// The rows that an observer watches: of a relay the users of its cluster, of the server, 0, sums of clusters, which stand after the users, and of the joint
+// observer, after the relays, those of its mask.
+fn watch_mask(clusters: u32, size: u32, both: u32, g: u32, w: u32) -> u32
+    requires { ⌜ (clusters ≤ 8) × (size ≤ 8) × (clusters * size ≤ 16) ⌝ }
+    ensures { λ r. ⌜ r ≡ watchMask clusters size both g w ⌝ }
 {
     if w == 0 {
-        tested_mask(clusters, size, g) << (clusters * size)
-    } else {
-        cluster_mask(size, w - 1)
+        return tested_mask(clusters, size, g) << (clusters * size);
     }
+    if w <= clusters {
+        return cluster_mask(size, w - 1);
+    }
+    both
 }
 
 // n symbols from a on are put at b, which lies after them.
@@ -177,22 +197,23 @@ fn leaks_to(
     clusters: usize,
     size: usize,
     cols: usize,
+    both: u32,
     g: u16,
     w: u16,
     levels: &[Symbol],
 ) -> bool
-    requires { ⌜ (length (now levels) ≡ levelsSize) × (clusters ≤ 8) × (size ≤ 8) × (clusters * size ≤ 16) × (cols ≤ 16) × (w ≤ clusters) ⌝ }
-    ensures { λ r. ⌜ r ≡ dependent q (clusters * size + clusters) cols (watchMask clusters size g w) g
+    requires { ⌜ (length (now levels) ≡ levelsSize) × (clusters ≤ 8) × (size ≤ 8) × (clusters * size ≤ 16) × (cols ≤ 16) ⌝ }
+    ensures { λ r. ⌜ r ≡ dependent q (clusters * size + clusters) cols (watchMask clusters size both g w) g
         (levelAt ((clusters * size + clusters) * cols) (now (levels .entry)) (ones g)) ⌝ }
 {
     let rows = clusters * size + clusters;
-    let watch = watch_mask(clusters as u32, size as u32, g as u32, w as u32);
+    let watch = watch_mask(clusters as u32, size as u32, both, g as u32, w as u32);
     let b = u16::count_ones(g) as usize * LEVEL;
     let e = b + rows * cols;
     are_dependent(q, rows, cols, watch, g as u32, &levels[b..e])
 }
 
-// The first pair whose rows depend on each other: coalitions in rising number, then relays 1 to U, then the server. A coalition's lowest member is
+// The first pair whose rows depend on each other: coalitions in rising number, and in each the observers in the order given. A coalition's lowest member is
 // its last: without it the coalition has a smaller number, was met before, and still stands on the level below.
 fn walk_levels(
     q: Symbol,
@@ -200,14 +221,16 @@ fn walk_levels(
     size: usize,
     limit: usize,
     cols: usize,
+    both: u32,
+    watching: &[u16],
     levels: &mut [Symbol],
 ) -> Walked
-    requires { ⌜ (length (now levels) ≡ levelsSize) × (clusters ≤ 8) × (size ≤ 8) × (clusters * size ≤ 16) × (cols ≤ 16) ⌝ }
-    ensures { λ r. ⌜ r ≡ walked (plan clusters size limit cols q) (take ((clusters * size + clusters) * cols) (now (levels .entry))) ⌝ }
+    requires { ⌜ (length (now levels) ≡ levelsSize) × (clusters ≤ 8) × (size ≤ 8) × (clusters * size ≤ 16) × (cols ≤ 16) × (length (now watching) ≤ 9) ⌝ }
+    ensures { λ r. ⌜ r ≡ walked (plan clusters size limit cols q) both (now (watching .entry))
+        (take ((clusters * size + clusters) * cols) (now (levels .entry))) ⌝ }
 {
     let users = clusters * size;
     let rows = users + clusters;
-    let last = clusters as u16 + 1;
     let top: u16 = ((1u32 << users as u32) - 1) as u16;
     let mut g: u16 = 0;
     let mut looked: u32 = 0;
@@ -218,11 +241,11 @@ fn walk_levels(
                 let i = u16::trailing_zeros(g) as usize;
                 descend(q, rows, cols, k, i, levels);
             }
-            let mut w: u16 = 1;
-            while w <= last {
-                let observer = w % last;
+            let mut w: usize = 0;
+            while w < watching.len() {
+                let observer = watching[w];
                 looked += 1;
-                if leaks_to(q, clusters, size, cols, g, observer, levels) {
+                if leaks_to(q, clusters, size, cols, both, g, observer, levels) {
                     break 'walk Walked {
                         found: Found::At(Pair {
                             coalition: g,
@@ -319,10 +342,10 @@ fn set_base(plan: Plan, table: &[Symbol], levels: &mut [Symbol])
     );
 }
 
-// The first pair that leaks, and how many were looked at.
-pub(crate) fn find_leak(plan: Plan, table: &[Symbol]) -> Walked
-    requires { ⌜ (inBounds plan ≡ true) × (length (now table) ≡ usersOf plan * plan .rate) × (0 < plan .q) ⌝ }
-    ensures { λ r. ⌜ r ≡ walked plan (baseTable plan (now (table .entry))) ⌝ }
+// The first pair that leaks, of every coalition with each of some observers, and how many were looked at.
+pub(crate) fn find_leak(plan: Plan, table: &[Symbol], both: u32, watching: &[u16]) -> Walked
+    requires { ⌜ (inBounds plan ≡ true) × (length (now table) ≡ usersOf plan * plan .rate) × (0 < plan .q) × (length (now watching) ≤ 9) ⌝ }
+    ensures { λ r. ⌜ r ≡ walked plan both (now (watching .entry)) (baseTable plan (now (table .entry))) ⌝ }
 {
     let mut levels = [0u16; LEVELS];
     set_base(plan, table, &mut levels);
@@ -332,6 +355,8 @@ pub(crate) fn find_leak(plan: Plan, table: &[Symbol]) -> Walked
         plan.size,
         plan.limit,
         plan.rate,
+        both,
+        watching,
         &mut levels,
     )
 }

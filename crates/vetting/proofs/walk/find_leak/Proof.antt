@@ -7,14 +7,15 @@ use Rattle.vetting.proofs.walk.find_leak.Tie as tie
 
 walk-levels-requires : tie.Need-walk-levels-requires
 walk-levels-requires c κs =
-    let s = c .before .before .before .before .before in
+    let s = c .before .before .before .before .before .before in
     let w = bounds-known (s .args .plan) (s .pre .0) in
-    (c .before .before .set-base .ensures .0, w .counts .few-clusters, w .counts .few-size, w .counts .few-users, w .few-symbols)
+    (c .before .before .set-base .ensures .0, w .counts .few-clusters, w .counts .few-size, w .counts .few-users, w .few-symbols, s .pre .3)
 
 returns : tie.Need-returns
 returns c =
-    let s = c .before .before .before .before .before .before .before in
-    c .before .walk-levels .ensures ∙ ap (walked (s .args .plan)) (c .before .before .before .before .set-base .ensures .1)
+    let s = c .before .before .before .before .before .before .before .before in
+    c .before .walk-levels .ensures
+    ∙ ap (walked (s .args .plan) (s .args .both) (s .args .watching .now)) (c .before .before .before .before .set-base .ensures .1)
 
 pub find-leak-spec : {M : Type 1} → statement M
 find-leak-spec =

@@ -54,7 +54,7 @@ leaks-to-spec =
     (λ c. omega arith)
     (λ c. omega arith)
     (λ c. omega arith)
-    (λ c κs. (c .before .pre .1, c .before .pre .2, c .before .pre .3, c .before .pre .5))
+    (λ c κs. (c .before .pre .1, c .before .pre .2, c .before .pre .3))
     cast-b
     mul-b
     mul-e
