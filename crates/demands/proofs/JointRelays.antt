@@ -1,0 +1,52 @@
+-- Relays under one lock: the statements of specs/JointRelays.
+use Prim.Native.Nat.{ℕ, _-_}
+use mathlib.Core.Path.{_≡_, ap, _∙_}
+use mathlib.Core.List.{List}
+use native.Mathlib.Omega.{arith}
+use Rattle.refusals.specs.declared.Code.{Code}
+use Rattle.secrecy.proofs.PairLeaks.{joint-equal-numbers}
+use Rattle.plans.specs.declared.Plan.{Plan}
+use Rattle.vetting.specs.declared.Joint.the-variants.{None, Relays}
+use Rattle.vetting.specs.Pools.{poolOf}
+use Rattle.vetting.proofs.ExactSecrecy.{checked, accepted-checked}
+use Rattle.vetting.proofs.Looking.{accepted-looked}
+use Rattle.vetting.proofs.JointLaws.{joint-none, joint-iff, joint-named}
+use Rattle.vetting.proofs.JointTheorems.{wrong-pair, accepted-fits, accepted-vet, accepted-count, joint-last, joint-count, two-relays}
+use Rattle.demands.specs.JointRelays.{Few, WithoutPair, AcceptedAlone, WrongPair, JointHides, RefusedIffJointLeaks, NamesLeast, TwoRelaysLeak}
+
+module _ (P : Plan) (K : List ℕ) where
+  pub without-pair : WithoutPair P K
+  without-pair = joint-none P K
+
+  pub accepted-alone : AcceptedAlone P K
+  accepted-alone None e = let v = e ∙ joint-none P K .0 in (v, joint-none P K .1 ∙ accepted-looked P K v)
+  accepted-alone (Relays a b) e = let v = accepted-vet P K a b e in (v, accepted-count P K a b e ∙ accepted-looked P K v)
+
+  module _ (a b : ℕ) where
+    pub wrong-pairs : WrongPair P K a b
+    wrong-pairs = wrong-pair P K a b
+
+    pub joint-hides : JointHides P K a b
+    joint-hides e g f =
+        let v = accepted-vet P K a b e in
+        let c = checked P K (accepted-checked P K v) in
+        joint-equal-numbers (poolOf P K) (c .prime) (c .valid) (a - 1) (b - 1) g
+        (λ leak.
+        let z : _≡_ {A = ℕ} 0 19 = ap (λ (d : Code). d .number) e ∙ joint-iff P K a b v (accepted-fits P K a b e) .1 (g, f .users, f .few, leak) in
+        absurd (omega arith))
+
+    pub refused-iff-joint-leaks : RefusedIffJointLeaks P K a b
+    refused-iff-joint-leaks v fit =
+        let w = joint-iff P K a b v fit in (
+          (λ n. let k = w .0 n in (k .0, record { users = k .1; few = k .2 }, k .3)),
+          (λ k. w .1 (k .0, k .1 .users, k .1 .few, k .2)),
+        )
+
+    pub names-least : NamesLeast P K a b
+    names-least n =
+        let (v, fit) = joint-last P K a b n in
+        let w = joint-named P K a b v fit n in
+        (v, joint-count P K a b n, (w .0, w .1, record { users = w .2; few = w .3 }, w .4, λ h l f. w .5 h l (f .few)))
+
+  pub two-relays-leak : TwoRelaysLeak P K
+  two-relays-leak = two-relays P K

@@ -1,0 +1,71 @@
+-- Relays that share a cabinet (document 02, Q-9). The promise of `vet_joint` (vetting) is `jointCode` and `jointLooked`. Clusters count from 0 and relays from 1, so
+-- that relays a and b are those of clusters a - 1 and b - 1; the papers' gang and watcher are coalition and observer.
+use Prim.Native.Nat.{ℕ, _-_, _^_, _≤_, _<_}
+use mathlib.Core.Path.{_≡_}
+use mathlib.Core.Logic.{_↔_}
+use mathlib.Core.Bool.{true, false}
+use mathlib.Core.List.{List}
+use Rattle.refusals.specs.Codes.{code, accepted, firstOf}
+use Rattle.lists.specs.Sums.{howMany}
+use Rattle.secrecy.specs.Model.{inCoalition, inEither, setView}
+use Rattle.secrecy.specs.Leaks.{longest, keysShowing, Symbols, Agree, JointLeak}
+use Rattle.plans.specs.declared.Plan.{Plan}
+use Rattle.plans.specs.Plans.{usersOf, tableChecks}
+use Rattle.vetting.specs.declared.Joint.{Joint}
+use Rattle.vetting.specs.declared.Joint.the-variants.{None, Relays}
+use Rattle.vetting.specs.Pools.{poolOf}
+use Rattle.vetting.specs.Vet.{vetCode}
+use Rattle.vetting.specs.Length.{pairCount, lookedAt}
+use Rattle.vetting.specs.Joint.{relaysFit, jointCode, jointLooked}
+
+module _ (P : Plan) (K : List ℕ) where
+  -- g is a coalition of at most T of the users
+  pub record Few (g : ℕ) : Type 0 where
+    pub users : g < 2 ^ usersOf P
+    pub few : howMany (usersOf P) (inCoalition g) ≤ P .limit
+
+  -- "The vet takes an optional pair of gateway numbers": without one it answers as before
+  abbrev pub WithoutPair : Type 0
+  WithoutPair = (jointCode P K None ≡ vetCode P K) × (jointLooked P K None ≡ lookedAt P K)
+
+  -- an accepted plan is one that the vet accepts alone, so that demand 3 is what it was; and its report is Q-5's number
+  abbrev pub AcceptedAlone : Type 0
+  AcceptedAlone =
+      (J : Joint) → accepted ≡ jointCode P K J
+      → (accepted ≡ vetCode P K) × (jointLooked P K J ≡ pairCount (P .clusters) (P .size) (P .limit))
+
+  module _ (a b : ℕ) where
+    -- "A pair that is equal, reversed or outside the plan is 8, before 6.": whatever the columns' sums are
+    abbrev pub WrongPair : Type 0
+    WrongPair = accepted ≡ firstOf (tableChecks P K) → relaysFit P a b ≡ false → jointCode P K (Relays a b) ≡ code 8
+
+    -- "Demand 3, with 19 for 7, then covers that joint watcher too; its sets of readings agree on the gang's members alone.": where nothing is refused, equal
+    -- numbers, for every coalition up to T, every block length and every view; the "joint sight is the uploads of both clusters with the gang's readings and keys"
+    abbrev pub JointHides : Type 0
+    JointHides =
+        accepted ≡ jointCode P K (Relays a b) → (g : ℕ) → Few g → (L : ℕ) → 1 ≤ L → L ≤ longest
+        → (W W′ : List ℕ) → Symbols (P .q) (usersOf P) L W → Symbols (P .q) (usersOf P) L W′ → Agree (poolOf P K) g L W W′ → (s : List ℕ)
+        → keysShowing (P .q) (P .rate) (setView (poolOf P K) (inEither (poolOf P K) (a - 1) (b - 1)) g) L W s
+        ≡ keysShowing (P .q) (P .rate) (setView (poolOf P K) (inEither (poolOf P K) (a - 1) (b - 1)) g) L W′ s
+
+    -- and refused with 19 exactly where, the other checks and 7 passed, some coalition leaks to it
+    abbrev pub RefusedIffJointLeaks : Type 0
+    RefusedIffJointLeaks =
+        accepted ≡ vetCode P K → relaysFit P a b ≡ true
+        → _≡_ {A = ℕ} (jointCode P K (Relays a b) .number) 19 ↔ ((g : ℕ) × Few g × JointLeak (poolOf P K) (a - 1) (b - 1) g)
+
+    -- "19 when the pair leaks, after 7, naming the gang of least number, with 0 as second detail."; "so 19 reports 0"
+    abbrev pub NamesLeast : Type 0
+    NamesLeast =
+        _≡_ {A = ℕ} (jointCode P K (Relays a b) .number) 19
+        → (accepted ≡ vetCode P K)
+        × (jointLooked P K (Relays a b) ≡ 0)
+        × ((g : ℕ)
+        × (jointCode P K (Relays a b) ≡ record { number = 19; first = g; second = 0 })
+        × Few g
+        × JointLeak (poolOf P K) (a - 1) (b - 1) g
+        × ((h : ℕ) → h < g → Few h → ¬ (JointLeak (poolOf P K) (a - 1) (b - 1) h)))
+
+  -- "With U 2 every pair leaks.": every plan that the vet accepts is refused with 19 and coalition 0
+  abbrev pub TwoRelaysLeak : Type 0
+  TwoRelaysLeak = P .clusters ≡ 2 → accepted ≡ vetCode P K → jointCode P K (Relays 1 2) ≡ record { number = 19; first = 0; second = 0 }
