@@ -18,10 +18,11 @@ use testing::product;
 use testing::quotient;
 use testing::residue;
 
-// A coalition and an observer, 0 for the server.
+// A coalition and an observer, 0 for the server; of a joint observer two relays, else the other is 0.
 struct Pair {
     coalition: usize,
     observer: usize,
+    other: usize,
 }
 
 // A view as one number, a digit to the base q for each symbol; and the sum of the cluster that is being gone through.
@@ -81,12 +82,13 @@ fn seen_by_server(s: Shape, i: usize, upload: usize, v: Part) -> Part {
     }
 }
 
-// A relay sees the uploads of its cluster.
-fn seen(s: Shape, observer: usize, i: usize, upload: usize, v: Part) -> Part {
-    if observer == 0 {
+// A relay sees the uploads of its cluster, a joint observer those of both.
+fn seen(s: Shape, p: Pair, i: usize, upload: usize, v: Part) -> Part {
+    if p.observer == 0 {
         return seen_by_server(s, i, upload, v);
     }
-    if quotient(i, s.size) % 65536 + 1 != observer {
+    let relay = quotient(i, s.size) % 65536 + 1;
+    if relay != p.observer && relay != p.other {
         return v;
     }
     Part {
@@ -116,7 +118,7 @@ fn view(s: Shape, keys: &[u8; 512], p: Pair, w: usize, n: usize) -> u16 {
     for i in 0..many {
         let key = key_at(keys, mul_add(i, n, many));
         let upload = residue(residue(readings, s.q) % 65536 + key % 65536, s.q);
-        v = seen(s, p.observer, i, upload, v);
+        v = seen(s, p, i, upload, v);
         v = given(s.q, members % 2 == 1, key, v);
         members = members / 2;
         readings = quotient(readings, s.q);
@@ -246,6 +248,7 @@ fn nth_pair(s: Shape, x: usize) -> Pair {
     Pair {
         coalition: x / OBSERVERS,
         observer: observer(s, x % OBSERVERS),
+        other: 0,
     }
 }
 
@@ -306,4 +309,47 @@ pub fn leak_of(s: Shape, t: &[Symbol], counts: &mut [u8; 65536]) -> usize {
     let mut keys = [0u8; 512];
     fill_keys(s, t, &mut keys);
     first_leak(s, &keys, counts)
+}
+
+// Whether a coalition of at most T users leaks to the joint observer of two relays.
+fn leaks_jointly(s: Shape, keys: &[u8; 512], p: Pair, counts: &mut [u8; 65536]) -> bool {
+    if ones(p.coalition, users(s)) > s.limit {
+        return false;
+    }
+    leaks(s, keys, p, counts)
+}
+
+// The first coalition that does, packed with the number 19; 0 where none does.
+fn first_joint(
+    s: Shape,
+    keys: &[u8; 512],
+    observer: usize,
+    other: usize,
+    counts: &mut [u8; 65536],
+) -> usize {
+    let all = sets(s);
+    for coalition in 0..all {
+        let p = Pair {
+            coalition,
+            observer,
+            other,
+        };
+        if leaks_jointly(s, keys, p, counts) {
+            return pack(19, coalition, 0);
+        }
+    }
+    0
+}
+
+// The same from a key table.
+pub fn joint_leak_of(
+    s: Shape,
+    t: &[Symbol],
+    observer: usize,
+    other: usize,
+    counts: &mut [u8; 65536],
+) -> usize {
+    let mut keys = [0u8; 512];
+    fill_keys(s, t, &mut keys);
+    first_joint(s, &keys, observer, other, counts)
 }

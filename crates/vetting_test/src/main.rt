@@ -3,6 +3,7 @@ mod cases;
 mod counting;
 mod expected;
 mod figures;
+mod joint;
 mod numbers;
 mod tables;
 mod wrong;
@@ -21,7 +22,7 @@ use testing::wide;
 // One symbol more than the largest table has.
 const LONGEST: usize = 257;
 
-fn plan_of(s: Shape) -> Plan {
+pub(crate) fn plan_of(s: Shape) -> Plan {
     Plan {
         clusters: s.clusters,
         size: s.size,
@@ -31,13 +32,13 @@ fn plan_of(s: Shape) -> Plan {
     }
 }
 
-fn said(verdict: Verdict) -> usize {
+pub(crate) fn said(verdict: Verdict) -> usize {
     let code = refusals::verdict_code(verdict);
     pack(wide(code.number), wide(code.first), wide(code.second))
 }
 
 // How many pairs are looked at before an answer: up to the one that it names, all where nothing is refused, and none before another refusal.
-fn looked_at(s: Shape, answer: usize) -> usize {
+pub(crate) fn looked_at(s: Shape, answer: usize) -> usize {
     let number = answer / 4294967296;
     if number == 0 || number == 7 {
         return counting::place_of(s, answer);
@@ -155,4 +156,5 @@ fn main() {
     }
     write_line(5, &total);
     figures::report();
+    joint::report(&mut counts);
 }

@@ -14,5 +14,5 @@ pub fn ones(g: usize, n: usize) -> usize {
 
 // A refusal's number and its two details as one number.
 pub fn pack(number: usize, first: usize, second: usize) -> usize {
-    number % 16 * 4294967296 + first % 65536 * 65536 + second % 65536
+    number % 64 * 4294967296 + first % 65536 * 65536 + second % 65536
 }

@@ -23,4 +23,5 @@ main-spec =
     (search needs)
     (search needs)
     (search needs)
+    (search needs)
     (search needs))
