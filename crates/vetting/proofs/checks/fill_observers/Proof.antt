@@ -1,7 +1,7 @@
 -- The invariant: the observers written are those of the places passed; the last is 0.
 use mathlib.Core.Path.{_≡_, refl, ap, ap₂, _∙_}
 use mathlib.Core.List.{[], _∷_, _++_}
-use Prim.Native.Nat.{ℕ, suc, _+_, _-_, _%_, _≤_}
+use Prim.Native.Nat.{ℕ, suc, _+_, _-_, _%_, _^_, _≤_, _<_}
 use native.Mathlib.Nat.{mod-self, mod-eq-of-lt, mod-lt}
 use native.Mathlib.Omega.{arith}
 use lib.ListN.{length}
@@ -37,10 +37,9 @@ loop-holds c = filling-none _ _ 0 refl
 within : (c : tie.In-loop Inv-loop μ-loop) → suc (c .before .loop .i) ≤ length (c .before .loop .watching)
 within c = omega (arith, c .loop-test .taken, c .before .loop .inv .whole)
 
-cast-watching : tie.Need-cast-watching Inv-loop μ-loop
-cast-watching c =
-    let a = c .before .before in
-    omega (arith, mod-lt (c .before .loop .i + 1) {m = length (a .args .watching .now)} (a .pre .0), a .pre .1)
+-- an observer's number is small
+small : (c : tie.In-loop Inv-loop μ-loop) (x : ℕ) → x % length (c .before .before .args .watching .now) < 2 ^ 16
+small c x = let a = c .before .before in omega (arith, mod-lt x {m = length (a .args .watching .now)} (a .pre .0), a .pre .1)
 
 returns : tie.Need-returns Inv-loop μ-loop
 returns c =
@@ -59,7 +58,7 @@ fill-observers-spec =
     loop-holds
     (λ c. omega (arith, c .loop-test .taken, c .before .before .pre .1))
     (λ c. omega (arith, c .before .before .pre .0))
-    cast-watching
+    (λ c. record { fits = small c _ })
     (λ c. omega (arith, within c, c .before .before .pre .1, c .before .loop .inv .whole))
     within
     (λ c. omega (arith, c .loop-test .taken, c .before .before .pre .1))
