@@ -4,15 +4,18 @@ use mathlib.Core.Path.{_≡_, ap, _∙_}
 use mathlib.Core.List.{List}
 use native.Mathlib.Omega.{arith}
 use Rattle.refusals.specs.declared.Code.{Code}
-use Rattle.secrecy.proofs.PairLeaks.{joint-equal-numbers}
+use Rattle.secrecy.proofs.PairLeaks.{joint-equal-numbers, two-clusters-leak}
 use Rattle.plans.specs.declared.Plan.{Plan}
 use Rattle.vetting.specs.declared.Joint.the-variants.{None, Relays}
 use Rattle.vetting.specs.Pools.{poolOf}
+use Rattle.plans.proofs.PlanBounds.{bounds-known}
+use Rattle.vetting.proofs.VetLaws.{passed}
 use Rattle.vetting.proofs.ExactSecrecy.{checked, accepted-checked}
 use Rattle.vetting.proofs.Looking.{accepted-looked}
 use Rattle.vetting.proofs.JointLaws.{joint-none, joint-iff, joint-named}
-use Rattle.vetting.proofs.JointTheorems.{wrong-pair, accepted-fits, accepted-vet, accepted-count, joint-last, joint-count, two-relays}
-use Rattle.demands.specs.JointRelays.{Few, WithoutPair, AcceptedAlone, WrongPair, JointHides, RefusedIffJointLeaks, NamesLeast, TwoRelaysLeak}
+use Rattle.vetting.proofs.JointTheorems.{wrong-pair, wrong-count, refused-alone, accepted-fits, accepted-vet, accepted-count, joint-last, joint-count, two-relays}
+use Rattle.demands.specs.JointRelays.{Few, WithoutPair, AcceptedAlone, WrongPair, RefusedAlone, JointHides, RefusedIffJointLeaks, NamesLeast}
+use Rattle.demands.specs.JointRelays.{TwoRelaysSeeAll, TwoRelaysLeak}
 
 module _ (P : Plan) (K : List ℕ) where
   pub without-pair : WithoutPair P K
@@ -24,7 +27,10 @@ module _ (P : Plan) (K : List ℕ) where
 
   module _ (a b : ℕ) where
     pub wrong-pairs : WrongPair P K a b
-    wrong-pairs = wrong-pair P K a b
+    wrong-pairs e f = (wrong-pair P K a b e f, wrong-count P K a b e f)
+
+    pub refused-as-alone : RefusedAlone P K a b
+    refused-as-alone = refused-alone P K a b
 
     pub joint-hides : JointHides P K a b
     joint-hides e g f =
@@ -47,6 +53,11 @@ module _ (P : Plan) (K : List ℕ) where
         let (v, fit) = joint-last P K a b n in
         let w = joint-named P K a b v fit n in
         (v, joint-count P K a b n, (w .0, w .1, record { users = w .2; few = w .3 }, w .4, λ h l f. w .5 h l (f .few)))
+
+  pub two-relays-see-all : TwoRelaysSeeAll P K
+  two-relays-see-all two others =
+      let c = checked P K others in
+      two-clusters-leak (poolOf P K) (c .prime) (c .valid) (c .zero-sum) two (bounds-known P (passed P K others .bounds) .counts .some-size)
 
   pub two-relays-leak : TwoRelaysLeak P K
   two-relays-leak = two-relays P K

@@ -5,7 +5,7 @@ use mathlib.Core.Path.{_≡_}
 use mathlib.Core.Logic.{_↔_}
 use mathlib.Core.Bool.{true, false}
 use mathlib.Core.List.{List}
-use Rattle.refusals.specs.Codes.{code, accepted, firstOf}
+use Rattle.refusals.specs.Codes.{code, accepted, isAccepted, firstOf}
 use Rattle.lists.specs.Sums.{howMany}
 use Rattle.secrecy.specs.Model.{inCoalition, inEither, setView}
 use Rattle.secrecy.specs.Leaks.{longest, keysShowing, Symbols, Agree, JointLeak}
@@ -14,7 +14,7 @@ use Rattle.plans.specs.Plans.{usersOf, tableChecks}
 use Rattle.vetting.specs.declared.Joint.{Joint}
 use Rattle.vetting.specs.declared.Joint.the-variants.{None, Relays}
 use Rattle.vetting.specs.Pools.{poolOf}
-use Rattle.vetting.specs.Vet.{vetCode}
+use Rattle.vetting.specs.Vet.{otherChecks, vetCode}
 use Rattle.vetting.specs.Length.{pairCount, lookedAt}
 use Rattle.vetting.specs.Joint.{relaysFit, jointCode, jointLooked}
 
@@ -35,9 +35,17 @@ module _ (P : Plan) (K : List ℕ) where
       → (accepted ≡ vetCode P K) × (jointLooked P K J ≡ pairCount (P .clusters) (P .size) (P .limit))
 
   module _ (a b : ℕ) where
-    -- "A pair that is equal, reversed or outside the plan is 8, before 6.": whatever the columns' sums are
+    -- "A pair that is equal, reversed or outside the plan is 8, before 6.": whatever the columns' sums are; nothing was looked at then
     abbrev pub WrongPair : Type 0
-    WrongPair = accepted ≡ firstOf (tableChecks P K) → relaysFit P a b ≡ false → jointCode P K (Relays a b) ≡ code 8
+    WrongPair =
+        accepted ≡ firstOf (tableChecks P K) → relaysFit P a b ≡ false
+        → (jointCode P K (Relays a b) ≡ code 8) × (jointLooked P K (Relays a b) ≡ 0)
+
+    -- a plan that the vet refuses is answered as without a pair that fits, and so is how many were looked at
+    abbrev pub RefusedAlone : Type 0
+    RefusedAlone =
+        relaysFit P a b ≡ true → isAccepted (vetCode P K) ≡ false
+        → (jointCode P K (Relays a b) ≡ vetCode P K) × (jointLooked P K (Relays a b) ≡ lookedAt P K)
 
     -- "Demand 3, with 19 for 7, then covers that joint watcher too; its sets of readings agree on the gang's members alone.": where nothing is refused, equal
     -- numbers, for every coalition up to T, every block length and every view; the "joint sight is the uploads of both clusters with the gang's readings and keys"
@@ -66,6 +74,9 @@ module _ (P : Plan) (K : List ℕ) where
         × JointLeak (poolOf P K) (a - 1) (b - 1) g
         × ((h : ℕ) → h < g → Few h → ¬ (JointLeak (poolOf P K) (a - 1) (b - 1) h)))
 
-  -- "With U 2 every pair leaks.": every plan that the vet accepts is refused with 19 and coalition 0
+  -- "With U 2 every pair leaks.": with no coalition at all, whatever 7 says; so every plan that the vet accepts is refused with 19 and coalition 0
+  abbrev pub TwoRelaysSeeAll : Type 0
+  TwoRelaysSeeAll = P .clusters ≡ 2 → accepted ≡ firstOf (otherChecks P K) → JointLeak (poolOf P K) 0 1 0
+
   abbrev pub TwoRelaysLeak : Type 0
   TwoRelaysLeak = P .clusters ≡ 2 → accepted ≡ vetCode P K → jointCode P K (Relays 1 2) ≡ record { number = 19; first = 0; second = 0 }

@@ -150,3 +150,10 @@ module _ (P : Pool) (prime : Prime (P .q)) (valid : Vector (P .q) (users P * P .
       ⊎-elim
       (λ i. absurd (all-depend P prime valid (inEither P 0 1) 0 zs (mul-pos (omega arith) some) (all-seen two some) i)) (λ k. k)
       (set-either P prime valid (inEither P 0 1) 0 every every-enough)
+
+  -- so does what the uploads of any users leak
+  pub set-small-leak : (b : ℕ → Bool) (g : ℕ) → Leak (P .q) (P .rate) every (Agree P g) (setView P b g)
+      → Leak (P .q) (P .rate) (Small (P .q) (users P)) (Agree P g) (setView P b g)
+  set-small-leak b g k =
+      ⊎-elim (λ i. absurd (set-keeps P prime valid b g every (every-enough .symbols) i k)) (λ s. s)
+      (set-either P prime valid b g (Small (P .q) (users P)) (small-enough (P .q) (users P) (prime .two)))

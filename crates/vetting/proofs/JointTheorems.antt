@@ -46,6 +46,29 @@ module _ (P : Plan) (K : List ℕ) (a b : ℕ) where
       ap (λ (t : Bool). firstOf (tableChecks P K ++ ((not t, code 8) ∷ (columnChecks P K ++ (leakChecks P K ++ joint))))) f
       ∙ ap (λ (l : List (Bool × Code)). firstOf (tableChecks P K ++ l)) (sym (append-assoc (columnChecks P K) (leakChecks P K) joint))
 
+  abbrev place : ℕ
+  place = placeIn (λ p. leakCheck P K p .0) (pairs (P .clusters) (P .size) (P .limit))
+
+  -- and then nothing was looked at
+  pub wrong-count : accepted ≡ firstOf (tableChecks P K) → relaysFit P a b ≡ false → jointLooked P K (Relays a b) ≡ 0
+  wrong-count e f =
+      let before : firstOf (checksBefore P K (Relays a b)) ≡ code 8
+      = sym (rest-decides (tableChecks P K) ((not (relaysFit P a b), code 8) ∷ columnChecks P K) tt e)
+      ∙ ap (λ (t : Bool). cond (not t) (code 8) (firstOf (columnChecks P K))) f in
+      ap (λ (c : Code). cond (eqb (c .number) 19) 0 (ifAccepted (firstOf (checksBefore P K (Relays a b))) place 0)) (wrong-pair e f)
+      ∙ ap (λ (c : Code). ifAccepted c place 0) before
+
+  -- with one that fits, a plan that the vet refuses is answered as before
+  pub refused-alone : relaysFit P a b ≡ true → isAccepted (vetCode P K) ≡ false
+      → (jointCode P K (Relays a b) ≡ vetCode P K) × (jointLooked P K (Relays a b) ≡ lookedAt P K)
+  refused-alone f r =
+      let e : jointCode P K (Relays a b) ≡ vetCode P K = fit-parts f ∙ sym (first-decides (vetChecks P K) joint r) in (
+        e,
+        ap (λ (c : Code). cond (eqb (c .number) 19) 0 (ifAccepted (firstOf (checksBefore P K (Relays a b))) place 0)) e
+            ∙ ap (λ (t : Bool). cond t 0 (ifAccepted (firstOf (checksBefore P K (Relays a b))) place 0)) (vet-other P K)
+            ∙ ap (λ (c : Code). ifAccepted c place 0) (before-parts P K a b f),
+      )
+
   -- the pair of an accepted plan fits
   pub accepted-fits : accepted ≡ jointCode P K (Relays a b) → relaysFit P a b ≡ true
   accepted-fits e = go (relaysFit P a b) refl

@@ -1,6 +1,5 @@
--- The verdict on a plan. Pools says what the equations speak of; Walk has the pairs in their order; Vet the vet's checks; Length how many pairs there are, and how many
--- were looked at.
--- Walking is no part of it: what private functions compute.
+-- The verdict on a plan. Pools says what the equations speak of; Walk has the pairs in their order; Vet the vet's checks; Length how many pairs there are, and
+-- how many were looked at; Joint the vet with two relays under one lock. Walking is no part of it: what private functions compute.
 pub mod Walk
 pub mod Vet
 pub mod Length

@@ -11,7 +11,7 @@ use refusals::Refusal;
 use refusals::Verdict;
 pub use under_lock::vet_joint;
 
-// A coalition, and an observer: relay 1 to U, or 0 for the server.
+// A coalition, and an observer: relay 1 to U, 0 for the server, or U + 1 for the joint observer.
 pub struct Pair {
     pub coalition: u16,
     pub observer: u16,
@@ -29,7 +29,8 @@ pub struct Walked {
     pub looked: u32,
 }
 
-// The vet's verdict, and how many pairs it looked at: all of them, or up to the first that leaks; 0 where the walk did not start.
+// The vet's verdict, and how many pairs it looked at: all of them, or up to the first that leaks; 0 where the walk did not start, and where only the joint
+// observer leaks.
 pub struct Report {
     pub verdict: Verdict,
     pub looked: u32,

@@ -100,7 +100,7 @@ fn report_joint(plan: Plan, table: &[Symbol], first: usize, second: usize, looke
     Report { verdict, looked: 0 }
 }
 
-// Once every pair was looked at: a plan that leaks to none of them is also held to its relays under one lock.
+// After the walk: a plan that leaks to no single observer is also held to its relays under one lock.
 fn with_joint(plan: Plan, table: &[Symbol], joint: Joint, report: Report) -> Report
     requires { ⌜ (accepted ≡ firstOf (checksBefore plan (now table) joint)) × (verdictCode (report .verdict) ≡ vetCode plan (now table))
         × (report .looked ≡ lookedAt plan (now table)) ⌝ }
@@ -116,7 +116,8 @@ fn with_joint(plan: Plan, table: &[Symbol], joint: Joint, report: Report) -> Rep
     report
 }
 
-// The vet, with relays that stand under one lock, if any do: whether it keeps readings secret from every observer, and then from whoever sees both relays.
+// The vet, with relays that stand under one lock, if any do: whether the plan keeps readings secret from every observer, and then from whoever sees both
+// relays.
 pub fn vet_joint(plan: Plan, table: &[Symbol], joint: Joint) -> Report
     ensures code { λ r. ⌜ verdictCode (r .verdict) ≡ jointCode plan (now (table .entry)) joint ⌝ }
     ensures looked { λ r. ⌜ r .looked ≡ jointLooked plan (now (table .entry)) joint ⌝ }

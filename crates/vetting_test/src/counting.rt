@@ -1,5 +1,6 @@
 // Which pair leaks first, by literal counting: for each set of readings, how many source keys show each view. No rank, and no elimination.
-// Blocks have one position: where a pair leaks with longer blocks, it does so with these (proved: leak-is-small).
+// Blocks have one position: where a pair leaks with longer blocks, it does so with these (proved: leak-is-small, and of joint views
+// set-small-leak).
 use crate::numbers::ones;
 use crate::numbers::pack;
 use crate::tables::MANY_SETS;
