@@ -1,5 +1,5 @@
--- Relays that share a cabinet (document 02, Q-9). The promise of `vet_joint` (vetting) is `jointCode` and `jointLooked`. Clusters count from 0 and relays from 1, so
--- that relays a and b are those of clusters a - 1 and b - 1; the papers' gang and watcher are coalition and observer.
+-- Relays that share a cabinet (document 02, Q-9). The promise of `vet_joint` (vetting) is `jointCode` and `jointLooked`. Clusters count from 0 and relays from
+-- 1, so that relays a and b are those of clusters a - 1 and b - 1; the papers' gang and watcher are coalition and observer.
 use Prim.Native.Nat.{ℕ, _-_, _^_, _≤_, _<_}
 use mathlib.Core.Path.{_≡_}
 use mathlib.Core.Logic.{_↔_}
@@ -48,7 +48,8 @@ module _ (P : Plan) (K : List ℕ) where
         → (jointCode P K (Relays a b) ≡ vetCode P K) × (jointLooked P K (Relays a b) ≡ lookedAt P K)
 
     -- "Demand 3, with 19 for 7, then covers that joint watcher too; its sets of readings agree on the gang's members alone.": where nothing is refused, equal
-    -- numbers, for every coalition up to T, every block length and every view; the "joint sight is the uploads of both clusters with the gang's readings and keys"
+    -- numbers, for every coalition up to T, every block length and every view; the "joint sight is the uploads of both clusters with the gang's readings and
+    -- keys"
     abbrev pub JointHides : Type 0
     JointHides =
         accepted ≡ jointCode P K (Relays a b) → (g : ℕ) → Few g → (L : ℕ) → 1 ≤ L → L ≤ longest

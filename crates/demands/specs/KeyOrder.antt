@@ -1,5 +1,6 @@
 -- Keys in the document's order (document 02, Q-4). The sum so far is `sumSoFar` of secrecy, and of user i in position p `keySoFar`; dealing's promise is
--- `keysAfter`, which names it, and the promise of the one step of the code (keys, `add_product`) is that from the sum after k products it makes that after k + 1.
+-- `keysAfter`, which names it, and the promise of the one step of the code (keys, `add_product`) is that from the sum after k products it makes that after k +
+-- 1.
 use Prim.Native.Nat.{ℕ, _+_, _*_, _%_, _<_}
 use mathlib.Core.Path.{_≡_}
 use mathlib.Core.Bool.{not, _&&_}

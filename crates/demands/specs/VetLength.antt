@@ -1,5 +1,5 @@
--- How long the vet is (document 02, Q-5). The promise of `count_pairs` (vetting) is `pairCount`, refused with 1 where the counts are outside their bounds; that of
--- `vet_counted` is `vetCode` and `lookedAt`. `pairs` is the list that the vet's own definition walks.
+-- How long the vet is (document 02, Q-5). The promise of `count_pairs` (vetting) is `pairCount`, refused with 1 where the counts are outside their bounds; that
+-- of `vet_counted` is `vetCode` and `lookedAt`. `pairs` is the list that the vet's own definition walks.
 use Prim.Native.Nat.{ℕ, _+_}
 use mathlib.Core.Path.{_≡_}
 use mathlib.Core.Logic.{_≢_}
@@ -23,8 +23,8 @@ module _ (P : Plan) (K : List ℕ) where
   abbrev pub AcceptedLooksAtAll : Type 0
   AcceptedLooksAtAll = accepted ≡ vetCode P K → lookedAt P K ≡ pairCount (P .clusters) (P .size) (P .limit)
 
-  -- "and a leaking one at the place of its first leak, from 1;": the pair that 7 names is the first of the list that leaks, and before it there are as many as were
-  -- looked at, but one
+  -- "and a leaking one at the place of its first leak, from 1;": the pair that 7 names is the first of the list that leaks, and before it there are as many as
+  -- were looked at, but one
   abbrev pub LeakingLooksToFirst : Type 0
   LeakingLooksToFirst =
       (p : Pair) → vetCode P K ≡ record { number = 7; first = p .coalition; second = p .observer }
