@@ -15,6 +15,15 @@ pub struct Case {
     pub number: usize,
 }
 
+// Groups that are named elsewhere.
+pub const TINY_Q2: usize = 0;
+
+pub const TINY_Q3: usize = 1;
+
+pub const SMALL_POOL: usize = 3;
+
+pub const WRONG_INPUTS: usize = 4;
+
 // Tiny plans with q 2, 3 and 5, the small pool, and inputs that are no good.
 pub fn cases(group: usize) -> usize {
     match group {

@@ -1,66 +1,73 @@
-// The vet with relays under one lock, against the same literal counts: tiny plans of three clusters, and the small pool, which has two.
+// The vet with relays under one lock, and without, against the same literal counts: tiny plans of three clusters, the small pool, which has two, and inputs
+// that are no good, each with every pair below.
+use crate::LONGEST;
 use crate::cases;
 use crate::cases::Case;
 use crate::counting::joint_leak_of;
-use crate::counting::leak_of;
-use crate::expected::refusal;
 use crate::looked_at;
+use crate::numbers::first_of;
+use crate::numbers::number_of;
 use crate::numbers::pack;
 use crate::plan_of;
 use crate::said;
+use crate::second_answer;
 use crate::tables::Shape;
 use arithmetic::Symbol;
 use libc::STDOUT_FILENO;
 use std::num::wrapping_add_usize;
 use vetting::Joint;
 
-// Places in the tally: the number of the answer, but 20 for two answers that differ, and 21 for a plan that is not asked for.
+// Places in the tally: the number of the answer, but one more for 19 where it names a coalition of some users, and another for two answers that differ.
+const ACCEPTED: usize = 0;
+
+const OUT_OF_BOUNDS: usize = 1;
+
+const NOT_PRIME: usize = 2;
+
+const NOT_A_SYMBOL: usize = 3;
+
+const WRONG_LENGTH: usize = 4;
+
+const NOT_ZERO_SUM: usize = 6;
+
+const LEAKS: usize = 7;
+
+const UNKNOWN_NUMBER: usize = 8;
+
+const JOINT_LEAKS: usize = 19;
+
+const WITH_COALITION: usize = 20;
+
+const DIFFER: usize = 21;
+
 const PLACES: usize = 22;
 
-const DIFFER: usize = 20;
-
-const LEFT_OUT: usize = 21;
-
-// The symbols of the largest table.
-const LONGEST: usize = 256;
+// Of the tiny plans those that have so many.
+const CLUSTERS: usize = 3;
 
 struct Relays {
     first: usize,
     second: usize,
 }
 
-// Three pairs that fit three clusters, and such as are equal, reversed or outside.
-fn relays_of(number: usize) -> Relays {
-    let x = number / 44 % 9;
-    match x {
-        0 | 1 => Relays {
-            first: 1,
-            second: 2,
-        },
-        2 | 3 => Relays {
-            first: 1,
-            second: 3,
-        },
-        4 => Relays {
-            first: 2,
-            second: 3,
-        },
-        5 => Relays {
-            first: 2,
-            second: 2,
-        },
-        6 => Relays {
-            first: 3,
-            second: 1,
-        },
-        7 => Relays {
-            first: 2,
-            second: 4,
-        },
-        _ => Relays {
-            first: 0,
-            second: 1,
-        },
+fn pair(first: usize, second: usize) -> Relays {
+    Relays { first, second }
+}
+
+const PAIRS: usize = 9;
+
+// The first 3 fit three clusters. The others are equal, reversed, or outside: 2^32 + 2 would be cut to 2.
+fn relays_of(n: usize) -> Relays {
+    match n {
+        0 => pair(1, 2),
+        1 => pair(1, 3),
+        2 => pair(2, 3),
+        3 => pair(2, 2),
+        4 => pair(2, 1),
+        5 => pair(3, 1),
+        6 => pair(2, 4),
+        7 => pair(0, 1),
+        _ => pair(1, 4294967298),
     }
 }
 
@@ -68,73 +75,56 @@ fn fit(s: Shape, r: Relays) -> bool {
     r.first != 0 && r.second > r.first && r.second <= s.clusters
 }
 
-// 7 and 19, once no other check refuses.
-fn leak(s: Shape, r: Relays, t: &[Symbol], counts: &mut [u8; 65536]) -> usize {
-    let alone = leak_of(s, t, counts);
-    if alone != 0 {
+// What is refused before the pair is looked at.
+fn comes_first(number: usize) -> bool {
+    match number {
+        OUT_OF_BOUNDS | WRONG_LENGTH | NOT_PRIME | NOT_A_SYMBOL => true,
+        _ => false,
+    }
+}
+
+// From the answer without a pair: 8 comes after 1, 4, 2 and 3, and before 6 and 7; 19 comes last.
+fn expected(s: Shape, r: Relays, alone: usize, t: &[Symbol], counts: &mut [u8; 65536]) -> usize {
+    if comes_first(number_of(alone)) {
+        return alone;
+    }
+    if !fit(s, r) {
+        return pack(UNKNOWN_NUMBER, 0, 0);
+    }
+    if alone != ACCEPTED {
         return alone;
     }
     joint_leak_of(s, t, r.first, r.second, counts)
 }
 
-// 8 comes after 1, 4, 2 and 3, and before 6.
-fn expected(s: Shape, r: Relays, t: &[Symbol], counts: &mut [u8; 65536]) -> usize {
-    let refused = refusal(s, t);
-    if refused != 0 && refused / 4294967296 != 6 {
-        return refused;
-    }
-    if !fit(s, r) {
-        return pack(8, 0, 0);
-    }
-    if refused != 0 {
-        return refused;
-    }
-    leak(s, r, t, counts)
+// Whether the vet gives this answer, and the count of pairs that goes with it.
+fn agrees(s: Shape, t: &[Symbol], joint: Joint, answer: usize) -> bool {
+    let report = vetting::vet_joint(plan_of(s), t, joint);
+    let verdict = report.verdict;
+    said(verdict) == answer && report.looked as usize == looked_at(s, answer)
 }
 
-// The number of the answer, or that the two differ.
-fn compare(s: Shape, r: Relays, t: &[Symbol], counts: &mut [u8; 65536]) -> usize {
+// Where an answer is counted.
+fn place(answer: usize) -> usize {
+    let number = number_of(answer);
+    if number == JOINT_LEAKS && first_of(answer) != 0 {
+        return WITH_COALITION;
+    }
+    number
+}
+
+// The place of the answer with a pair, or that the two answers differ.
+fn compare(s: Shape, r: Relays, alone: usize, t: &[Symbol], counts: &mut [u8; 65536]) -> usize {
+    let answer = expected(s, r, alone, t, counts);
     let joint = Joint::Relays {
         first: r.first,
         second: r.second,
     };
-    let report = vetting::vet_joint(plan_of(s), t, joint);
-    let verdict = report.verdict;
-    let answer = said(verdict);
-    let same = report.looked as usize == looked_at(s, answer);
-    if !same || answer != expected(s, r, t, counts) {
-        return DIFFER;
+    if agrees(s, t, joint, answer) {
+        place(answer)
+    } else {
+        DIFFER
     }
-    answer / 4294967296
-}
-
-// Without a pair the answer is the vet's, and so is the count.
-fn same_without(s: Shape, t: &[Symbol]) -> bool {
-    let report = vetting::vet_joint(plan_of(s), t, Joint::None);
-    let verdict = report.verdict;
-    let answer = said(vetting::vet(plan_of(s), t));
-    said(verdict) == answer && report.looked as usize == looked_at(s, answer)
-}
-
-fn outcome(c: Case, t: &mut [Symbol], counts: &mut [u8; 65536]) -> usize {
-    let s = cases::shape(c);
-    if s.clusters != 3 && c.group != 3 {
-        return LEFT_OUT;
-    }
-    cases::fill(c, t);
-    if !same_without(s, t) {
-        return DIFFER;
-    }
-    compare(s, relays_of(c.number), t, counts)
-}
-
-fn judged(c: Case, counts: &mut [u8; 65536]) -> usize {
-    let n = cases::length(c);
-    if n > LONGEST {
-        return DIFFER;
-    }
-    let mut t = [0 as Symbol; LONGEST];
-    outcome(c, &mut t[..n], counts)
 }
 
 fn increase(tally: &mut [usize; PLACES], n: usize) {
@@ -143,10 +133,51 @@ fn increase(tally: &mut [usize; PLACES], n: usize) {
     }
 }
 
+fn try_pairs(
+    s: Shape,
+    alone: usize,
+    t: &[Symbol],
+    counts: &mut [u8; 65536],
+    tally: &mut [usize; PLACES],
+) {
+    for n in 0..PAIRS {
+        increase(tally, compare(s, relays_of(n), alone, t, counts));
+    }
+}
+
+// The slow counts of the answer without a pair are made once, for all comparisons.
+fn try_plan(c: Case, t: &mut [Symbol], counts: &mut [u8; 65536], tally: &mut [usize; PLACES]) {
+    cases::fill(c, t);
+    let s = cases::shape(c);
+    let alone = second_answer(c, t, counts);
+    if !agrees(s, t, Joint::None, alone) {
+        increase(tally, DIFFER);
+    }
+    try_pairs(s, alone, t, counts, tally);
+}
+
+fn is_tried(c: Case) -> bool {
+    let s = cases::shape(c);
+    s.clusters == CLUSTERS || c.group == cases::SMALL_POOL || c.group == cases::WRONG_INPUTS
+}
+
+fn try_case(c: Case, counts: &mut [u8; 65536], tally: &mut [usize; PLACES]) {
+    if !is_tried(c) {
+        return;
+    }
+    let n = cases::length(c);
+    if n > LONGEST {
+        increase(tally, DIFFER);
+        return;
+    }
+    let mut t = [0 as Symbol; LONGEST];
+    try_plan(c, &mut t[..n], counts, tally);
+}
+
 fn count(group: usize, counts: &mut [u8; 65536], tally: &mut [usize; PLACES]) {
     let many = cases::cases(group);
     for number in 0..many {
-        increase(tally, judged(Case { group, number }, counts));
+        try_case(Case { group, number }, counts, tally);
     }
 }
 
@@ -155,18 +186,26 @@ fn write_count(n: usize, end: &[u8]) {
     io::write_all(STDOUT_FILENO, end);
 }
 
-// q 2 and 3, and the small pool.
+fn write_line(tally: &[usize; PLACES]) {
+    io::write_all(STDOUT_FILENO, b"joint pairs: ");
+    write_count(tally[ACCEPTED], b" accepted, ");
+    write_count(tally[OUT_OF_BOUNDS], b" refused 1, ");
+    write_count(tally[WRONG_LENGTH], b" refused 4, ");
+    write_count(tally[NOT_PRIME], b" refused 2, ");
+    write_count(tally[NOT_A_SYMBOL], b" refused 3, ");
+    write_count(tally[UNKNOWN_NUMBER], b" refused 8, ");
+    write_count(tally[NOT_ZERO_SUM], b" refused 6, ");
+    write_count(tally[LEAKS], b" refused 7, ");
+    write_count(tally[JOINT_LEAKS], b" refused 19 (no coalition), ");
+    write_count(tally[WITH_COALITION], b" refused 19 (a coalition), ");
+    write_count(tally[DIFFER], b" differ\n");
+}
+
 pub fn report(counts: &mut [u8; 65536]) {
     let mut tally = [0usize; PLACES];
-    count(0, counts, &mut tally);
-    count(1, counts, &mut tally);
-    count(3, counts, &mut tally);
-    io::write_all(STDOUT_FILENO, b"joint pairs: ");
-    write_count(tally[0], b" accepted, ");
-    write_count(tally[3], b" refused 3, ");
-    write_count(tally[8], b" refused 8, ");
-    write_count(tally[6], b" refused 6, ");
-    write_count(tally[7], b" refused 7, ");
-    write_count(tally[19], b" refused 19, ");
-    write_count(tally[DIFFER], b" differ\n");
+    count(cases::TINY_Q2, counts, &mut tally);
+    count(cases::TINY_Q3, counts, &mut tally);
+    count(cases::SMALL_POOL, counts, &mut tally);
+    count(cases::WRONG_INPUTS, counts, &mut tally);
+    write_line(&tally);
 }

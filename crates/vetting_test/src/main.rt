@@ -11,6 +11,8 @@ mod wrong;
 use arithmetic::Symbol;
 use cases::Case;
 use libc::STDOUT_FILENO;
+use numbers::first_of;
+use numbers::number_of;
 use numbers::pack;
 use plans::Plan;
 use refusals::Verdict;
@@ -20,7 +22,7 @@ use testing::narrow;
 use testing::wide;
 
 // One symbol more than the largest table has.
-const LONGEST: usize = 257;
+pub(crate) const LONGEST: usize = 257;
 
 pub(crate) fn plan_of(s: Shape) -> Plan {
     Plan {
@@ -39,7 +41,7 @@ pub(crate) fn said(verdict: Verdict) -> usize {
 
 // How many pairs are looked at before an answer: up to the one that it names, all where nothing is refused, and none before another refusal.
 pub(crate) fn looked_at(s: Shape, answer: usize) -> usize {
-    let number = answer / 4294967296;
+    let number = number_of(answer);
     if number == 0 || number == 7 {
         return counting::place_of(s, answer);
     }
@@ -48,13 +50,14 @@ pub(crate) fn looked_at(s: Shape, answer: usize) -> usize {
 
 // In the last group a table that no other check refuses is all zeros: relay 1 sees every reading of its cluster.
 fn leak(c: Case, t: &[Symbol], counts: &mut [u8; 65536]) -> usize {
-    if c.group == 4 {
+    if c.group == cases::WRONG_INPUTS {
         return pack(7, 0, 1);
     }
     counting::leak_of(cases::shape(c), t, counts)
 }
 
-fn second_answer(c: Case, t: &[Symbol], counts: &mut [u8; 65536]) -> usize {
+// The answer of the second implementation.
+pub(crate) fn second_answer(c: Case, t: &[Symbol], counts: &mut [u8; 65536]) -> usize {
     let refused = expected::refusal(cases::shape(c), t);
     if refused != 0 {
         return refused;
@@ -64,14 +67,14 @@ fn second_answer(c: Case, t: &[Symbol], counts: &mut [u8; 65536]) -> usize {
 
 // The number of an answer; 7 is told apart by who learns something: a relay alone, 9 a relay with a coalition, 10 the server.
 fn class(answer: usize) -> usize {
-    let number = answer / 4294967296;
+    let number = number_of(answer);
     if number != 7 {
         return number;
     }
     if answer % 65536 == 0 {
         return 10;
     }
-    if answer / 65536 % 65536 == 0 { 7 } else { 9 }
+    if first_of(answer) == 0 { 7 } else { 9 }
 }
 
 // The class of the answer, or 8 where the two answers differ.

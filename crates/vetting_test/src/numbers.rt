@@ -16,3 +16,13 @@ pub fn ones(g: usize, n: usize) -> usize {
 pub fn pack(number: usize, first: usize, second: usize) -> usize {
     number % 64 * 4294967296 + first % 65536 * 65536 + second % 65536
 }
+
+// Its number again.
+pub fn number_of(packed: usize) -> usize {
+    packed / 4294967296
+}
+
+// Its first detail.
+pub fn first_of(packed: usize) -> usize {
+    packed / 65536 % 65536
+}

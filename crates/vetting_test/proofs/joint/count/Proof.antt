@@ -21,5 +21,4 @@ count-spec =
     (search needs)
     (search needs)
     (search needs)
-    (search needs)
     (search needs))
