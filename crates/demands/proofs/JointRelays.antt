@@ -12,10 +12,10 @@ use Rattle.plans.proofs.PlanBounds.{bounds-known}
 use Rattle.vetting.proofs.VetLaws.{passed}
 use Rattle.vetting.proofs.ExactSecrecy.{checked, accepted-checked}
 use Rattle.vetting.proofs.Looking.{accepted-looked}
-use Rattle.vetting.proofs.JointLaws.{joint-none, joint-iff, joint-named}
+use Rattle.vetting.proofs.JointLaws.{joint-none, table-refuses, joint-iff, joint-named}
 use Rattle.vetting.proofs.JointTheorems.{wrong-pair, wrong-count, refused-alone, accepted-fits, accepted-vet, accepted-count, joint-last, joint-count, two-relays}
 use Rattle.demands.specs.JointRelays.{Few, WithoutPair, AcceptedAlone, WrongPair, RefusedAlone, JointHides, RefusedIffJointLeaks, NamesLeast}
-use Rattle.demands.specs.JointRelays.{TwoRelaysSeeAll, TwoRelaysLeak}
+use Rattle.demands.specs.JointRelays.{TableFirst, TwoRelaysSeeAll, TwoRelaysLeak}
 
 module _ (P : Plan) (K : List ℕ) where
   pub without-pair : WithoutPair P K
@@ -24,6 +24,9 @@ module _ (P : Plan) (K : List ℕ) where
   pub accepted-alone : AcceptedAlone P K
   accepted-alone None e = let v = e ∙ joint-none P K .0 in (v, joint-none P K .1 ∙ accepted-looked P K v)
   accepted-alone (Relays a b) e = let v = accepted-vet P K a b e in (v, accepted-count P K a b e ∙ accepted-looked P K v)
+
+  pub table-first : TableFirst P K
+  table-first = table-refuses P K
 
   module _ (a b : ℕ) where
     pub wrong-pairs : WrongPair P K a b

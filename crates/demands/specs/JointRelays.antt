@@ -34,6 +34,11 @@ module _ (P : Plan) (K : List ℕ) where
       (J : Joint) → accepted ≡ jointCode P K J
       → (accepted ≡ vetCode P K) × (jointLooked P K J ≡ pairCount (P .clusters) (P .size) (P .limit))
 
+  -- 1, 4, 2 and 3 come before 8: a table that is refused by itself is answered so whatever pair is named, and nothing was looked at
+  abbrev pub TableFirst : Type 0
+  TableFirst =
+      (J : Joint) → isAccepted (firstOf (tableChecks P K)) ≡ false → (jointCode P K J ≡ firstOf (tableChecks P K)) × (jointLooked P K J ≡ 0)
+
   module _ (a b : ℕ) where
     -- "A pair that is equal, reversed or outside the plan is 8, before 6.": whatever the columns' sums are; nothing was looked at then
     abbrev pub WrongPair : Type 0

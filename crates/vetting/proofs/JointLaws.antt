@@ -189,6 +189,13 @@ module _ (P : Plan) (K : List ℕ) where
               ∙ ap (λ (t : Bool). cond t 0 before-looked) (sym (before-other J) ∙ ap (λ (d : Code). eqb (d .number) 19) same),
         )
 
+    -- so it is with a table that is refused by itself, whatever the pair is
+    pub table-refuses : isAccepted (firstOf (tableChecks P K)) ≡ false → (jointCode P K J ≡ firstOf (tableChecks P K)) × (jointLooked P K J ≡ 0)
+    table-refuses e =
+        let same : firstOf (tableChecks P K) ≡ firstOf (checksBefore P K J) = first-decides (tableChecks P K) (relayChecks P J ++ columnChecks P K) e in
+        let (code-same, none) = before-refuses (ap isAccepted (sym same) ∙ e) in
+        (sym (same ∙ code-same), sym none)
+
   module _ (a b : ℕ) where
     -- a pair that fits changes nothing before the walk
     pub before-parts : relaysFit P a b ≡ true → firstOf (checksBefore P K (Relays a b)) ≡ firstOf (otherChecks P K)
