@@ -12,10 +12,11 @@ use Rattle.plans.proofs.PlanBounds.{bounds-known}
 use Rattle.vetting.proofs.VetLaws.{passed}
 use Rattle.vetting.proofs.ExactSecrecy.{checked, accepted-checked}
 use Rattle.vetting.proofs.Looking.{accepted-looked}
-use Rattle.vetting.proofs.JointLaws.{joint-none, table-refuses, joint-iff, joint-named}
-use Rattle.vetting.proofs.JointTheorems.{wrong-pair, wrong-count, refused-alone, accepted-fits, accepted-vet, accepted-count, joint-last, joint-count, two-relays}
+use Rattle.vetting.proofs.JointLaws.{joint-none, table-refuses, joint-iff, joint-named, joint-quiet}
+use Rattle.vetting.proofs.JointTheorems.{wrong-pair, wrong-count, only-wrong-pair, refused-alone, accepted-fits, accepted-vet, accepted-count}
+use Rattle.vetting.proofs.JointTheorems.{joint-last, joint-count, two-relays}
 use Rattle.demands.specs.JointRelays.{Few, WithoutPair, AcceptedAlone, WrongPair, RefusedAlone, JointHides, RefusedIffJointLeaks, NamesLeast}
-use Rattle.demands.specs.JointRelays.{TableFirst, TwoRelaysSeeAll, TwoRelaysLeak}
+use Rattle.demands.specs.JointRelays.{TableFirst, OnlyWrongPair, AcceptedIff, TwoRelaysSeeAll, TwoRelaysLeak}
 
 module _ (P : Plan) (K : List ℕ) where
   pub without-pair : WithoutPair P K
@@ -32,6 +33,23 @@ module _ (P : Plan) (K : List ℕ) where
     pub wrong-pairs : WrongPair P K a b
     wrong-pairs e f = (wrong-pair P K a b e f, wrong-count P K a b e f)
 
+    pub only-wrong-pairs : OnlyWrongPair P K a b
+    only-wrong-pairs = only-wrong-pair P K a b
+
+    pub accepted-iff : AcceptedIff P K a b
+    accepted-iff = (
+      (λ e.
+          let v = accepted-vet P K a b e in
+          let fit = accepted-fits P K a b e in (
+            v,
+            fit,
+            (λ g f leak.
+                let z : _≡_ {A = ℕ} 0 19 = ap (λ (d : Code). d .number) e ∙ joint-iff P K a b v fit .1 (g, f .users, f .few, leak) in
+                absurd (omega arith)),
+          )),
+      (λ k. joint-quiet P K a b (k .0) (k .1) (λ g users few. k .2 g (record { users = users; few = few }))),
+    )
+
     pub refused-as-alone : RefusedAlone P K a b
     refused-as-alone = refused-alone P K a b
 
@@ -39,10 +57,7 @@ module _ (P : Plan) (K : List ℕ) where
     joint-hides e g f =
         let v = accepted-vet P K a b e in
         let c = checked P K (accepted-checked P K v) in
-        joint-equal-numbers (poolOf P K) (c .prime) (c .valid) (a - 1) (b - 1) g
-        (λ leak.
-        let z : _≡_ {A = ℕ} 0 19 = ap (λ (d : Code). d .number) e ∙ joint-iff P K a b v (accepted-fits P K a b e) .1 (g, f .users, f .few, leak) in
-        absurd (omega arith))
+        joint-equal-numbers (poolOf P K) (c .prime) (c .valid) (a - 1) (b - 1) g (accepted-iff .0 e .2 g f)
 
     pub refused-iff-joint-leaks : RefusedIffJointLeaks P K a b
     refused-iff-joint-leaks v fit =
@@ -55,7 +70,7 @@ module _ (P : Plan) (K : List ℕ) where
     names-least n =
         let (v, fit) = joint-last P K a b n in
         let w = joint-named P K a b v fit n in
-        (v, joint-count P K a b n, (w .0, w .1, record { users = w .2; few = w .3 }, w .4, λ h l f. w .5 h l (f .few)))
+        (v, fit, joint-count P K a b n, (w .0, w .1, record { users = w .2; few = w .3 }, w .4, λ h l f. w .5 h l (f .few)))
 
   pub two-relays-see-all : TwoRelaysSeeAll P K
   two-relays-see-all two others =

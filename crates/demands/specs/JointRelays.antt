@@ -28,7 +28,8 @@ module _ (P : Plan) (K : List ℕ) where
   abbrev pub WithoutPair : Type 0
   WithoutPair = (jointCode P K None ≡ vetCode P K) × (jointLooked P K None ≡ lookedAt P K)
 
-  -- an accepted plan is one that the vet accepts alone, so that demand 3 is what it was; and its report is Q-5's number
+  -- "It is judged after the whole walk and left out of Q-5's number": an accepted plan is one that the vet accepts alone, so that demand 3 is what it was; and
+  -- its report is Q-5's number
   abbrev pub AcceptedAlone : Type 0
   AcceptedAlone =
       (J : Joint) → accepted ≡ jointCode P K J
@@ -46,6 +47,11 @@ module _ (P : Plan) (K : List ℕ) where
         accepted ≡ firstOf (tableChecks P K) → relaysFit P a b ≡ false
         → (jointCode P K (Relays a b) ≡ code 8) × (jointLooked P K (Relays a b) ≡ 0)
 
+    -- and 8 is given to no other
+    abbrev pub OnlyWrongPair : Type 0
+    OnlyWrongPair =
+        _≡_ {A = ℕ} (jointCode P K (Relays a b) .number) 8 → (accepted ≡ firstOf (tableChecks P K)) × (relaysFit P a b ≡ false)
+
     -- a plan that the vet refuses is answered as without a pair that fits, and so is how many were looked at
     abbrev pub RefusedAlone : Type 0
     RefusedAlone =
@@ -62,6 +68,12 @@ module _ (P : Plan) (K : List ℕ) where
         → keysShowing (P .q) (P .rate) (setView (poolOf P K) (inEither (poolOf P K) (a - 1) (b - 1)) g) L W s
         ≡ keysShowing (P .q) (P .rate) (setView (poolOf P K) (inEither (poolOf P K) (a - 1) (b - 1)) g) L W′ s
 
+    -- accepted is exactly a plan that the vet accepts alone, with a pair that fits and leaks with no coalition
+    abbrev pub AcceptedIff : Type 0
+    AcceptedIff =
+        (accepted ≡ jointCode P K (Relays a b))
+        ↔ ((accepted ≡ vetCode P K) × (relaysFit P a b ≡ true) × ((g : ℕ) → Few g → ¬ (JointLeak (poolOf P K) (a - 1) (b - 1) g)))
+
     -- and refused with 19 exactly where, the other checks and 7 passed, some coalition leaks to it
     abbrev pub RefusedIffJointLeaks : Type 0
     RefusedIffJointLeaks =
@@ -73,6 +85,7 @@ module _ (P : Plan) (K : List ℕ) where
     NamesLeast =
         _≡_ {A = ℕ} (jointCode P K (Relays a b) .number) 19
         → (accepted ≡ vetCode P K)
+        × (relaysFit P a b ≡ true)
         × (jointLooked P K (Relays a b) ≡ 0)
         × ((g : ℕ)
         × (jointCode P K (Relays a b) ≡ record { number = 19; first = g; second = 0 })
@@ -80,7 +93,8 @@ module _ (P : Plan) (K : List ℕ) where
         × JointLeak (poolOf P K) (a - 1) (b - 1) g
         × ((h : ℕ) → h < g → Few h → ¬ (JointLeak (poolOf P K) (a - 1) (b - 1) h)))
 
-  -- "With U 2 every pair leaks.": with no coalition at all, whatever 7 says; so every plan that the vet accepts is refused with 19 and coalition 0
+  -- "With U 2 every pair leaks.": with no coalition at all, whatever 7 says; so every plan that the vet accepts is, with the pair 1 and 2, refused with 19 and
+  -- coalition 0
   abbrev pub TwoRelaysSeeAll : Type 0
   TwoRelaysSeeAll = P .clusters ≡ 2 → accepted ≡ firstOf (otherChecks P K) → JointLeak (poolOf P K) 0 1 0
 

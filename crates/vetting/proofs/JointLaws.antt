@@ -28,28 +28,29 @@ use Rattle.vetting.specs.Pools.{poolOf}
 use Rattle.vetting.specs.Walk.{pairs}
 use Rattle.vetting.specs.Vet.{columnCheck, columnChecks, leakCheck, otherChecks, vetChecks, vetCode}
 use Rattle.vetting.specs.Length.{placeIn, lookedAt}
-use Rattle.vetting.specs.Joint.{coalitions, relaysFit, relayChecks, jointChecks, checksBefore, jointCode, jointLooked}
+use Rattle.vetting.specs.Joint.{coalitions, relaysFit, relayChecks, jointCheck, jointChecks, checksBefore, jointCode, jointLooked}
 use Rattle.vetting.proofs.PairLists.{within}
 use Rattle.vetting.proofs.ExactSecrecy.{Checked, checked, other-numbered, accepted-checked, walk-decides}
 
--- ---- codes of another number than 19
+-- ---- codes of another number than n
 
--- a check with such a code
-abbrev OtherNumber : Bool × Code → Type 0
-OtherNumber check = eqb (check .1 .number) 19 ≡ false
+module _ (n : ℕ) where
+  -- a check with such a code
+  abbrev pub OtherNumber : Bool × Code → Type 0
+  OtherNumber check = eqb (check .1 .number) n ≡ false
 
-others-map : {A : Type 0} (f : A → Bool × Code) → ((x : A) → OtherNumber (f x)) → (l : List A) → All OtherNumber (map f l)
-others-map f h [] = tt
-others-map f h (x ∷ l) = (h x, others-map f h l)
+  pub others-map : {A : Type 0} (f : A → Bool × Code) → ((x : A) → OtherNumber (f x)) → (l : List A) → All OtherNumber (map f l)
+  others-map f h [] = tt
+  others-map f h (x ∷ l) = (h x, others-map f h l)
 
--- and the code that such checks give
-pub other-first : (checks : List (Bool × Code)) → All OtherNumber checks → eqb (firstOf checks .number) 19 ≡ false
-other-first [] h = refl
-other-first (check ∷ checks) h = go (check .0) (other-first checks (h .1))
-  where
-    go : (t : Bool) → eqb (firstOf checks .number) 19 ≡ false → eqb (cond t (check .1) (firstOf checks) .number) 19 ≡ false
-    go true ih = h .0
-    go false ih = ih
+  -- and the code that such checks give
+  pub other-first : eqb 0 n ≡ false → (checks : List (Bool × Code)) → All OtherNumber checks → eqb (firstOf checks .number) n ≡ false
+  other-first some [] h = some
+  other-first some (check ∷ checks) h = go (check .0) (other-first some checks (h .1))
+    where
+      go : (t : Bool) → eqb (firstOf checks .number) n ≡ false → eqb (cond t (check .1) (firstOf checks) .number) n ≡ false
+      go true ih = h .0
+      go false ih = ih
 
 -- ---- the check of the relays
 
@@ -138,21 +139,41 @@ module _ (P : Plan) (K : List ℕ) where
   abbrev pub leakChecks : List (Bool × Code)
   leakChecks = map (leakCheck P K) (pairs (P .clusters) (P .size) (P .limit))
 
-  columns-other : All OtherNumber (columnChecks P K)
-  columns-other = others-map (columnCheck P K) (λ k. refl) (tab (P .rate) (λ k. k))
+  columns-other : (n : ℕ) → eqb 6 n ≡ false → All (OtherNumber n) (columnChecks P K)
+  columns-other n h = others-map n (columnCheck P K) (λ k. h) (tab (P .rate) (λ k. k))
 
-  -- no code of the vet has the number 19
+  leaks-other : (n : ℕ) → eqb 7 n ≡ false → All (OtherNumber n) leakChecks
+  leaks-other n h = others-map n (leakCheck P K) (λ p. h) (pairs (P .clusters) (P .size) (P .limit))
+
+  -- no code of the vet has the number 19, nor one of the checks before the walk
   pub vet-other : eqb (vetCode P K .number) 19 ≡ false
   vet-other =
-      let rest : All OtherNumber (columnChecks P K ++ leakChecks)
-      = all-append OtherNumber (columnChecks P K) leakChecks columns-other
-      (others-map (leakCheck P K) (λ p. refl) (pairs (P .clusters) (P .size) (P .limit))) in
-      other-first (vetChecks P K) (refl, (refl, (refl, (refl, rest))))
+      other-first 19 refl (vetChecks P K)
+      (refl, (refl, (refl, (refl, all-append (OtherNumber 19) (columnChecks P K) leakChecks (columns-other 19 refl) (leaks-other 19 refl)))))
 
-  -- nor has one of the checks before the walk
   before-other : (J : Joint) → eqb (firstOf (checksBefore P K J) .number) 19 ≡ false
-  before-other None = other-first (otherChecks P K) (refl, (refl, (refl, (refl, columns-other))))
-  before-other (Relays a b) = other-first (checksBefore P K (Relays a b)) (refl, (refl, (refl, (refl, (refl, columns-other)))))
+  before-other None = other-first 19 refl (otherChecks P K) (refl, (refl, (refl, (refl, columns-other 19 refl))))
+  before-other (Relays a b) = other-first 19 refl (checksBefore P K (Relays a b)) (refl, (refl, (refl, (refl, (refl, columns-other 19 refl)))))
+
+  -- and no code but that of the relays' own check has the number 8
+  pub none-eight : (a b : ℕ) → eqb (firstOf (vetChecks P K ++ jointChecks P K (Relays a b)) .number) 8 ≡ false
+  none-eight a b =
+      let joint : List (Bool × Code) = jointChecks P K (Relays a b) in
+      let last : All (OtherNumber 8) joint = others-map 8 (jointCheck P K a b) (λ g. refl) (coalitions (usersOf P) (P .limit)) in
+      other-first 8 refl (vetChecks P K ++ joint) (
+        refl,
+        (
+          refl,
+          (
+            refl,
+            (
+              refl,
+              all-append (OtherNumber 8) (columnChecks P K ++ leakChecks) joint
+                  (all-append (OtherNumber 8) (columnChecks P K) leakChecks (columns-other 8 refl) (leaks-other 8 refl)) last,
+            ),
+          ),
+        ),
+      )
 
   before-numbered : (J : Joint) → T (numbered (checksBefore P K J))
   before-numbered None = other-numbered P K
@@ -281,6 +302,17 @@ module _ (P : Plan) (K : List ℕ) where
             (λ s. sym (ap (λ (d : Code). d .number) (s .2)))
             found),
       )
+
+      -- and where the pair leaks with none, the plan is accepted
+      pub joint-quiet : ((g : ℕ) → g < 2 ^ usersOf P → howMany (usersOf P) (inCoalition g) ≤ P .limit → ¬ (JointLeak (poolOf P K) (a - 1) (b - 1) g))
+          → accepted ≡ jointCode P K (Relays a b)
+      joint-quiet quiet =
+          ⊎-elim
+          (λ s. s .1)
+          (λ s.
+          absurd
+          (quiet (s .0) (s .1 .low) (leb→le (howMany (usersOf P) (inCoalition (s .0))) (P .limit) (s .1 .few)) (leaking-iff (s .0) .0 (s .1 .here))))
+          found
 
   -- where the checks before the walk accept, so do those of the vet without a pair
   pub before-accepts : (J : Joint) → accepted ≡ firstOf (checksBefore P K J) → accepted ≡ firstOf (otherChecks P K)

@@ -28,7 +28,7 @@ use Rattle.vetting.specs.Joint.{relaysFit, jointChecks, checksBefore, jo
 use Rattle.vetting.proofs.PlanLaws.{vetted, vet-numbered}
 use Rattle.vetting.proofs.ExactSecrecy.{checked, accepted-checked}
 use Rattle.vetting.proofs.Looking.{accepted-looked}
-use Rattle.vetting.proofs.JointLaws.{other-first, vet-other, leakChecks, joint-none, before-parts, joint-iff, joint-named}
+use Rattle.vetting.proofs.JointLaws.{other-first, vet-other, none-eight, leakChecks, table-refuses, joint-none, before-parts, joint-iff, joint-named}
 
 module _ (P : Plan) (K : List ℕ) (a b : ℕ) where
   abbrev joint : List (Bool × Code)
@@ -69,6 +69,23 @@ module _ (P : Plan) (K : List ℕ) (a b : ℕ) where
             ∙ ap (λ (c : Code). ifAccepted c place 0) (before-parts P K a b f),
       )
 
+  -- 8 is given to no other
+  pub only-wrong-pair : _≡_ {A = ℕ} (jointCode P K (Relays a b) .number) 8 → (accepted ≡ firstOf (tableChecks P K)) × (relaysFit P a b ≡ false)
+  only-wrong-pair n = table (isAccepted (firstOf (tableChecks P K))) refl
+    where
+      apart : (c : Code) → eqb (c .number) 8 ≡ false → jointCode P K (Relays a b) ≡ c → ⊥
+      apart c o e = subst T (sym (eq-eqb (c .number) 8 (ap (λ (d : Code). d .number) (sym e) ∙ n)) ∙ o) tt
+
+      fits : accepted ≡ firstOf (tableChecks P K) → (t : Bool) → relaysFit P a b ≡ t → (accepted ≡ firstOf (tableChecks P K)) × (relaysFit P a b ≡ false)
+      fits e true f = absurd (apart (firstOf (vetChecks P K ++ joint)) (none-eight P K a b) (fit-parts f))
+      fits e false f = (e, f)
+
+      table : (t : Bool) → isAccepted (firstOf (tableChecks P K)) ≡ t → (accepted ≡ firstOf (tableChecks P K)) × (relaysFit P a b ≡ false)
+      table true e = fits (number-accepts (tableChecks P K) tt e) (relaysFit P a b) refl
+      table false e =
+          absurd (apart (firstOf (tableChecks P K)) (other-first 8 refl (tableChecks P K) (refl, (refl, (refl, (refl, tt)))))
+          (table-refuses P K (Relays a b) e .0))
+
   -- the pair of an accepted plan fits
   pub accepted-fits : accepted ≡ jointCode P K (Relays a b) → relaysFit P a b ≡ true
   accepted-fits e = go (relaysFit P a b) refl
@@ -87,7 +104,6 @@ module _ (P : Plan) (K : List ℕ) (a b : ℕ) where
 
   pub accepted-count : accepted ≡ jointCode P K (Relays a b) → jointLooked P K (Relays a b) ≡ lookedAt P K
   accepted-count e =
-      let place : ℕ = placeIn (λ p. leakCheck P K p .0) (pairs (P .clusters) (P .size) (P .limit)) in
       ap (λ (c : Code). cond (eqb (c .number) 19) 0 (ifAccepted (firstOf (checksBefore P K (Relays a b))) place 0)) (sym e)
       ∙ ap (λ (c : Code). ifAccepted c place 0) (before-parts P K a b (accepted-fits e))
 
@@ -112,12 +128,12 @@ module _ (P : Plan) (K : List ℕ) (a b : ℕ) where
       table : (t : Bool) → isAccepted (firstOf (tableChecks P K)) ≡ t → (accepted ≡ vetCode P K) × (relaysFit P a b ≡ true)
       table true e = fits (number-accepts (tableChecks P K) tt e) (relaysFit P a b) refl
       table false e =
-          absurd (apart (firstOf (tableChecks P K)) (other-first (tableChecks P K) (refl, (refl, (refl, (refl, tt)))))
-          (sym (first-decides (tableChecks P K) ((not (relaysFit P a b), code 8) ∷ columnChecks P K ++ (leakChecks P K ++ joint)) e)))
+          absurd (apart (firstOf (tableChecks P K)) (other-first 19 refl (tableChecks P K) (refl, (refl, (refl, (refl, tt)))))
+          (table-refuses P K (Relays a b) e .0))
 
   pub joint-count : _≡_ {A = ℕ} (jointCode P K (Relays a b) .number) 19 → jointLooked P K (Relays a b) ≡ 0
   joint-count n =
-      ap (λ (t : Bool). cond t 0 (ifAccepted (firstOf (checksBefore P K (Relays a b))) (placeIn (λ p. leakCheck P K p .0) (pairs (P .clusters) (P .size) (P .limit))) 0))
+      ap (λ (t : Bool). cond t 0 (ifAccepted (firstOf (checksBefore P K (Relays a b))) place 0))
       (eq-eqb (jointCode P K (Relays a b) .number) 19 n)
 
 -- ---- with two relays
@@ -136,7 +152,8 @@ module _ (P : Plan) (K : List ℕ) (two : P .clusters ≡ 2) (e : accepted ≡ v
   pub two-relays : jointCode P K (Relays 1 2) ≡ record { number = 19; first = 0; second = 0 }
   two-relays =
       let c = checked P K (accepted-checked P K e) in
-      let leak : JointLeak (poolOf P K) 0 1 0 = two-clusters-leak (poolOf P K) (c .prime) (c .valid) (c .zero-sum) two (vetted P K e .bounds .counts .some-size) in
+      let leak : JointLeak (poolOf P K) 0 1 0
+      = two-clusters-leak (poolOf P K) (c .prime) (c .valid) (c .zero-sum) two (vetted P K e .bounds .counts .some-size) in
       let n = joint-iff P K 1 2 e both-fit .1 (0, pow-pos (usersOf P), nobody, leak) in
       let w = joint-named P K 1 2 e both-fit n in
       let none : (0 < w .0) → ⊥ = λ l. w .5 0 l nobody leak in

@@ -23,7 +23,7 @@ use Rattle.vetting.specs.Length.{placeIn}
 unfoldable pub coalitions : ℕ → ℕ → List ℕ
 coalitions n limit = picked (2 ^ n) (λ g. leb (howMany n (inCoalition g)) limit) (λ g. g ∷ [])
 
--- "A pair that is equal, reversed or outside the plan is 8, before 6."
+-- a pair of relay numbers, "the lower first"; "A pair that is equal, reversed or outside the plan is 8, before 6."
 abbrev pub relaysFit : Plan → ℕ → ℕ → Bool
 relaysFit P a b = leb 1 a && ltb a b && leb b (P .clusters)
 

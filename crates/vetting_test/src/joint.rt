@@ -1,5 +1,5 @@
-// The vet with relays under one lock, and without, against the same literal counts: tiny plans of three clusters, the small pool, which has two, and inputs
-// that are no good, each with every pair below.
+// The vet with relays under one lock, and without, against the same literal counts: tiny plans of three clusters or more, the small pool, which has two, and
+// inputs that are no good, each with every pair below.
 use crate::LONGEST;
 use crate::cases;
 use crate::cases::Case;
@@ -40,9 +40,12 @@ const WITH_COALITION: usize = 20;
 
 const DIFFER: usize = 21;
 
-const PLACES: usize = 22;
+// And the plans whose answer without a pair is as it should be.
+const ALONE: usize = 22;
 
-// Of the tiny plans those that have so many.
+const PLACES: usize = 23;
+
+// Of the tiny plans those that have at least so many.
 const CLUSTERS: usize = 3;
 
 struct Relays {
@@ -54,19 +57,20 @@ fn pair(first: usize, second: usize) -> Relays {
     Relays { first, second }
 }
 
-const PAIRS: usize = 9;
+const PAIRS: usize = 10;
 
-// The first 3 fit three clusters. The others are equal, reversed, or outside: 2^32 + 2 would be cut to 2.
+// The first 3 fit three clusters, the first 5 four. The others are equal, reversed, or outside: 2^32 + 2 would be cut to 2.
 fn relays_of(n: usize) -> Relays {
     match n {
         0 => pair(1, 2),
         1 => pair(1, 3),
         2 => pair(2, 3),
-        3 => pair(2, 2),
-        4 => pair(2, 1),
-        5 => pair(3, 1),
-        6 => pair(2, 4),
-        7 => pair(0, 1),
+        3 => pair(2, 4),
+        4 => pair(3, 4),
+        5 => pair(2, 2),
+        6 => pair(2, 1),
+        7 => pair(3, 1),
+        8 => pair(0, 1),
         _ => pair(1, 4294967298),
     }
 }
@@ -150,15 +154,18 @@ fn try_plan(c: Case, t: &mut [Symbol], counts: &mut [u8; 65536], tally: &mut [us
     cases::fill(c, t);
     let s = cases::shape(c);
     let alone = second_answer(c, t, counts);
-    if !agrees(s, t, Joint::None, alone) {
-        increase(tally, DIFFER);
-    }
+    let place = if agrees(s, t, Joint::None, alone) {
+        ALONE
+    } else {
+        DIFFER
+    };
+    increase(tally, place);
     try_pairs(s, alone, t, counts, tally);
 }
 
 fn is_tried(c: Case) -> bool {
     let s = cases::shape(c);
-    s.clusters == CLUSTERS || c.group == cases::SMALL_POOL || c.group == cases::WRONG_INPUTS
+    s.clusters >= CLUSTERS || c.group == cases::SMALL_POOL || c.group == cases::WRONG_INPUTS
 }
 
 fn try_case(c: Case, counts: &mut [u8; 65536], tally: &mut [usize; PLACES]) {
@@ -188,6 +195,7 @@ fn write_count(n: usize, end: &[u8]) {
 
 fn write_line(tally: &[usize; PLACES]) {
     io::write_all(STDOUT_FILENO, b"joint pairs: ");
+    write_count(tally[ALONE], b" plans without one as before; ");
     write_count(tally[ACCEPTED], b" accepted, ");
     write_count(tally[OUT_OF_BOUNDS], b" refused 1, ");
     write_count(tally[WRONG_LENGTH], b" refused 4, ");

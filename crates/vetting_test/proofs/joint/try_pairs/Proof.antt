@@ -7,7 +7,7 @@ abbrev Inv-loop : tie.InvT-loop
 Inv-loop s alone t counts₀ tally₀ n₀ counts tally n = Unit {0}
 
 abbrev μ-loop : tie.MeasureT-loop
-μ-loop s alone t counts₀ tally₀ n₀ counts tally n = 9 - n
+μ-loop s alone t counts₀ tally₀ n₀ counts tally n = 10 - n
 
 pub try-pairs-spec : {M : Type 1} → statement M
 try-pairs-spec =
