@@ -158,7 +158,7 @@ fn write_table(plan: Plan, generator: Symbol, table: &mut [Symbol]) -> Verdict
         ≡ ifAccepted (verdictCode r) (madeTable (plan .clusters) (plan .size) (plan .limit) (plan .q) generator) (now (table .entry)) ⌝ }
 {
     let m = table.len();
-    let mut built = [0u16; LARGEST];
+    let mut built = [0 as Symbol; LARGEST];
     write_vetted(plan, generator, &mut built[..m], table)
 }
 

@@ -94,7 +94,7 @@ fn clear_from(
     let b = i * cols;
     let e = b + cols;
     let c = arithmetic::inverse_mod(q, table[b + p]);
-    let mut s = [0u16; 48];
+    let mut s = [0 as Symbol; 48];
     scale(q, c, &table[b..e], &mut s[..cols]);
     let start = from * cols;
     clear_rows(q, rows - from, cols, p, &mut table[start..], &s[..cols]);
@@ -201,7 +201,7 @@ fn count_in_copy(q: Symbol, rows: usize, cols: usize, table: &[Symbol]) -> usize
     ensures { λ r. ⌜ r ≡ pivotsFrom q rows cols rows 0 (now (table .entry)) ⌝ }
 {
     let m = rows * cols;
-    let mut t = [0u16; MOST * MOST];
+    let mut t = [0 as Symbol; MOST * MOST];
     copy_all(table, &mut t[..m]);
     count_pivots(q, rows, cols, &mut t[..m])
 }

@@ -185,7 +185,7 @@ fn are_dependent(
     requires { ⌜ (rows ≤ mostRows) × (cols ≤ 16) × (rows * cols ≡ length (now table)) ⌝ }
     ensures { λ r. ⌜ r ≡ dependent q rows cols watch skip (now (table .entry)) ⌝ }
 {
-    let mut s = [0u16; LEVEL];
+    let mut s = [0 as Symbol; LEVEL];
     let n = gather(rows, cols, watch, skip, table, &mut s);
     let m = n * cols;
     reduce_rows(q, n, cols, &mut s[..m]) != n
@@ -347,7 +347,7 @@ pub(crate) fn find_leak(plan: Plan, table: &[Symbol], both: u32, watching: &[u16
     requires { ⌜ (inBounds plan ≡ true) × (length (now table) ≡ usersOf plan * plan .rate) × (0 < plan .q) × (length (now watching) ≤ 9) ⌝ }
     ensures { λ r. ⌜ r ≡ walked plan both (now (watching .entry)) (baseTable plan (now (table .entry))) ⌝ }
 {
-    let mut levels = [0u16; LEVELS];
+    let mut levels = [0 as Symbol; LEVELS];
     set_base(plan, table, &mut levels);
     walk_levels(
         plan.q,
