@@ -29,7 +29,7 @@ use denote.RattleType.{owns}
 use denote.Memory.{mem}
 use denote.Laws.{Is, shows}
 use denote.Plain.{uint-makes, uint-vals, uint-tells}
-use denote.Builtin.{u16, usize}
+use denote.Builtin.{u32, usize}
 use denote.Ref.{RefT, MutRef, ptr-vals, mut-tells}
 use denote.Slice.{sliceVal, ShrSlice, MutSlice, Room, finally, slice-vals, shr-slice-tells, mut-slice-tells, shr-slice-lawful, shr-slice-copy}
 use denote.Steps.{only, opens, closes, owned, peeks, heard, nothing}
@@ -68,8 +68,8 @@ use Rattle.streams.proofs.draw.Code as code
 
 abbrev stayed : Stays (draw.ended .signature .params) (draw.ended .kept)
 stayed = (
-  stay-none-slice (0 ∷ []) tt (plain (λ _. u16)) yes,
-  (stay-ref (1 ∷ []) tt (plain (λ _. T.the-row)), (stay-none (λ _. usize) yes, (gave-slice (2 ∷ []) tt (plain (λ _. u16)), tt))),
+  stay-none-slice (0 ∷ []) tt (plain (λ _. u32)) yes,
+  (stay-ref (1 ∷ []) tt (plain (λ _. T.the-row)), (stay-none (λ _. usize) yes, (gave-slice (2 ∷ []) tt (plain (λ _. u32)), tt))),
 )
 
 -- the contract that the proof cites
@@ -108,10 +108,10 @@ module _ {M : Type 1} (𝓤 : URA M) (H : Heap 𝓤) (A : Atoms 𝓤) (W : Given
   Post = walkOf 𝓤 H A draw.ended stayed (draw.clauses 𝓤 H A at-mem run) .post (((κ₀, (κ₁, (κ₂, tt))), (q₀, (q₁, (q₂, tt))), tt, a, vals), tt)
 
   abbrev Stream : Fml
-  Stream = ShrSlice (named 0) κ₀ u16 .own t (tv ∷ [])
+  Stream = ShrSlice (named 0) κ₀ u32 .own t (tv ∷ [])
 
   abbrev Out : Fml
-  Out = MutSlice (named 2) κ₂ u16 .own x (xv ∷ [])
+  Out = MutSlice (named 2) κ₂ u32 .own x (xv ∷ [])
 
   -- what `draw_at`'s triple binds outside
   abbrev to : DrawAt 𝓤 H A at-mem run .Ghost
@@ -130,10 +130,10 @@ module _ {M : Type 1} (𝓤 : URA M) (H : Heap 𝓤) (A : Atoms 𝓤) (W : Given
 
   exits : (r : Drawn) (u : Val) (zs : List ℕ) → Is S.the-row (r .answer) (u ∷ []) → Said (r .answer) (r .at) zs → length zs ≡ length ys
       → ent 𝓤 (⋆ 𝓤 H A (‵ (fobs γ (T.the-row .coded .code (h (r .at)))) ∷ ‵ (fbor κ₁ (Body (mem T.the-row) b o γ)) ∷ ‵
-      (flft κ₁ q₁) ∷ (‵ (flft κ₀ q₀) ⊛ ‵ (flft κ₂ q₂) ⊛ ‵ ftrue) ∷ ‵ (finally u16 γ′ zs) ∷ ‵ Stream ∷ [])) (Post u)
+      (flft κ₁ q₁) ∷ (‵ (flft κ₀ q₀) ⊛ ‵ (flft κ₂ q₂) ⊛ ‵ ftrue) ∷ ‵ (finally u32 γ′ zs) ∷ ‵ Stream ∷ [])) (Post u)
   exits r u zs is e len =
       qed W (‵ (fobs γ (T.the-row .coded .code (h (r .at)))) ∷ ‵ (fbor κ₁ (Body (mem T.the-row) b o γ)) ∷ ‵
-      (flft κ₁ q₁) ∷ (‵ (flft κ₀ q₀) ⊛ ‵ (flft κ₂ q₂) ⊛ ‵ ftrue) ∷ ‵ (finally u16 γ′ zs) ∷ ‵ Stream ∷ []) ∵
+      (flft κ₁ q₁) ∷ (‵ (flft κ₀ q₀) ⊛ ‵ (flft κ₂ q₂) ⊛ ‵ ftrue) ∷ ‵ (finally u32 γ′ zs) ∷ ‵ Stream ∷ []) ∵
       suffices ! _ (ends-at 𝓤 H A draw.ended stayed (draw.clauses 𝓤 H A at-mem run) W (((κ₀, (κ₁, (κ₂, tt))), (q₀, (q₁, (q₂, tt))), tt, a, vals), tt) u
       (r .answer) (tt, (h (r .at), (tt, (zs, tt)))) (tt, (tt, (tt, (len, tt))))) $ says ! e $
       -- the tokens
@@ -148,15 +148,15 @@ module _ {M : Type 1} (𝓤 : URA M) (H : Heap 𝓤) (A : Atoms 𝓤) (W : Given
   n-fits g = LL.owed T.the-type T′.the-laws (h n) _ g .0 .1
 
   module _ (C : Calls 𝓤 H) (Λ : Loops 𝓤 H) (fm : FmC 𝓤 H (W .laws) C) (known : Triple 𝓤 (C #draw-at) (DrawAt 𝓤 H A at-mem run)) where
-    walk : Is (ShrSlice (named 0) κ₀ u16) t (tv ∷ []) → Room u16 (length ys) → ent 𝓤
+    walk : Is (ShrSlice (named 0) κ₀ u32) t (tv ∷ []) → Room u32 (length ys) → ent 𝓤
         (onEntry 𝓤 H A draw.signature (κ₀, (κ₁, (κ₂, tt))) (q₀, (q₁, (q₂, tt))) a vals) (WpFn 𝓤 H C Λ code.function (tv ∷ vptr b o ∷ vint w64 l ∷ xv ∷ []) Post)
     walk p room =
         qed W ((‵ (flft κ₀ q₀) ⊛ ‵ (flft κ₁ q₁) ⊛ ‵ (flft κ₂ q₂) ⊛ ‵ ftrue) ∷ ‵
-        (owns (ShrSlice (named 0) κ₀ u16 ∷ MutRef (named 1) κ₁ T.the-row ∷ usize ∷ MutSlice (named 2) κ₂ u16 ∷ []) a vals) ∷ []) ∵
+        (owns (ShrSlice (named 0) κ₀ u32 ∷ MutRef (named 1) κ₁ T.the-row ∷ usize ∷ MutSlice (named 2) κ₂ u32 ∷ []) a vals) ∷ []) ∵
         enter ! C Λ code.function (tv ∷ vptr b o ∷ vint w64 l ∷ xv ∷ []) _ $
         alloc1 ! (λ l₀. alloc1 ! (λ l₁. alloc1 ! (λ l₂. alloc1 !
         (λ l₃. alloc1 ! (λ l₄. alloc1 ! (λ l₅. alloc1 ! (λ l₆. alloc1 ! (λ l₇. alloc1 ! (λ l₈. alloc0 ! $ params1 ! $
-        pass1 ! (init ! 14 refl (shr-slice-lawful 𝓤 H A W (named 0) κ₀ u16 .typed t (tv ∷ []) p .0)) $ pass1 ! (init ! 12 refl (tt, tt)) $ pass1 !
+        pass1 ! (init ! 14 refl (shr-slice-lawful 𝓤 H A W (named 0) κ₀ u32 .typed t (tv ∷ []) p .0)) $ pass1 ! (init ! 12 refl (tt, tt)) $ pass1 !
         (init ! 10 refl (tt, record { fits = l-fits })) $ pass1 ! (init ! 8 refl (tt, (tt, (record { fits = room .0 }, tt)))) $ pass0 ! $
         -- the position's borrow is opened
         move ! (19 ∷ []) $ fsplit ! $ move ! (1 ∷ []) $ fsplit ! $ fsplit3 ! $ drop ! $ move ! (22 ∷ []) $ split ! $ move ! (1 ∷ []) $ split ! $ move !
@@ -173,7 +173,7 @@ module _ {M : Type 1} (𝓤 : URA M) (H : Heap 𝓤) (A : Atoms 𝓤) (W : Given
         (init ! 9 refl (tt, (tt, (record { fits = room .0 }, tt)))) $
         -- what the callee asks; the stream is copied
         move ! (7 ∷ []) $ fsplit ! $ drop ! $ fsplit ! $ move ! (9 ∷ []) $ use1 W (‵ Stream ⊛ ‵ Stream)
-        (shr-slice-copy 𝓤 H A W (named 0) κ₀ u16 .twice t (tv ∷ [])) $ split ! $
+        (shr-slice-copy 𝓤 H A W (named 0) κ₀ u32 .twice t (tv ∷ [])) $ split ! $
         move ! (10 ∷ 9 ∷ 0 ∷ 2 ∷ []) $ join ! $ use3 W (raw (DrawAt 𝓤 H A at-mem run .pre to)) (goes (n-fits g)) $
         -- [the callee's; the stream; …; the position's cell; what it owns; the open borrow; obs; auth; _8; …; _0; …]
         calls-at ! fm (DrawAt 𝓤 H A at-mem run) known to
@@ -214,10 +214,10 @@ module _ {M : Type 1} (𝓤 : URA M) (H : Heap 𝓤) (A : Atoms 𝓤) (W : Given
   draw-walks C Λ fm known = walked 𝓤 H A draw.ended stayed (draw.clauses 𝓤 H A mem run) (WpFn 𝓤 H C Λ code.function)
       (λ κs. (slice-vals, (ptr-vals, (uint-vals w64, (slice-vals, tt)))))
       (λ κs. (
-        shr-slice-tells (named 0) (κs .0) u16,
+        shr-slice-tells (named 0) (κs .0) u32,
         (
           mut-tells (named 1) (κs .1 .0) T.the-row,
-          (uint-tells w64, (mut-slice-tells (named 2) (κs .1 .1 .0) u16, tt)),
+          (uint-tells w64, (mut-slice-tells (named 2) (κs .1 .1 .0) u32, tt)),
         ),
       ))
       (λ κs qs bounds a g are. via 𝓤 _ (fst∗ 𝓤 _ (emp 𝓤))
@@ -231,10 +231,10 @@ draw-meets : {M : Type 1} (𝓤 : URA M) (H : Heap 𝓤) (A : Atoms 𝓤) → Gi
     → Meets 𝓤 H A draw.signature (WpFn 𝓤 H (𝓣 .C) (𝓣 .Λ) code.function) (draw.spec 𝓤 H A mem run)
 draw-meets 𝓤 H A W mem run 𝓣 known =
     walk-meets 𝓤 H A draw.ended stayed W (
-      goes-none-slice 𝓤 H A W 3 (0 ∷ []) tt (plain (λ _. u16)) yes,
+      goes-none-slice 𝓤 H A W 3 (0 ∷ []) tt (plain (λ _. u32)) yes,
       (
         goes-ref 𝓤 H A W 3 1 tt (plain (λ _. T.the-row)),
-        (goes-none 𝓤 H A W 3 (λ _. usize) yes (λ κs x f. refl), (goes-gave-slice 𝓤 H A W 3 2 tt (plain (λ _. u16)), tt)),
+        (goes-none 𝓤 H A W 3 (λ _. usize) yes (λ κs x f. refl), (goes-gave-slice 𝓤 H A W 3 2 tt (plain (λ _. u32)), tt)),
       ),
     )
     (draw.clauses 𝓤 H A mem run)

@@ -30,7 +30,7 @@ use denote.Lend.{lends-ref, ref-back}
 use types.Tokens.{lft-new, lft-end}
 use denote.Laws.{Is, shows}
 use denote.Plain.{uint-makes, uint-vals, uint-tells}
-use denote.Builtin.{u16, usize}
+use denote.Builtin.{u32, usize}
 use denote.Ref.{RefT, MutRef}
 use denote.Slice.{sliceVal, ShrSlice, MutSlice, Room, finally, slice-vals, shr-slice-tells, mut-slice-tells, shr-slice-lawful, shr-slice-copy}
 use denote.Steps.{only, owned, peeks, heard, nothing}
@@ -69,8 +69,8 @@ use Rattle.streams.proofs.draw_from.Code as code
 
 abbrev stayed : Stays (draw-from.ended .signature .params) (draw-from.ended .kept)
 stayed = (
-  stay-none-slice (0 ∷ []) tt (plain (λ _. u16)) yes,
-  (stay-none (λ _. usize) yes, (stay-none (λ _. usize) yes, (gave-slice (1 ∷ []) tt (plain (λ _. u16)), tt))),
+  stay-none-slice (0 ∷ []) tt (plain (λ _. u32)) yes,
+  (stay-none (λ _. usize) yes, (stay-none (λ _. usize) yes, (gave-slice (1 ∷ []) tt (plain (λ _. u32)), tt))),
 )
 
 -- the contract that the proof cites
@@ -124,10 +124,10 @@ module _ {M : Type 1} (𝓤 : URA M) (H : Heap 𝓤) (A : Atoms 𝓤) (W : Given
   Post = walkOf 𝓤 H A draw-from.ended stayed (draw-from.clauses 𝓤 H A at-mem run) .post (((κ₀, (κ₁, tt)), (q₀, (q₁, tt)), tt, a, vals), tt)
 
   abbrev Stream : Fml
-  Stream = ShrSlice (named 0) κ₀ u16 .own t (tv ∷ [])
+  Stream = ShrSlice (named 0) κ₀ u32 .own t (tv ∷ [])
 
   abbrev Out : Fml
-  Out = MutSlice (named 1) κ₁ u16 .own x (xv ∷ [])
+  Out = MutSlice (named 1) κ₁ u32 .own x (xv ∷ [])
 
   -- the position at the place b, lent for ν under the name δ
   abbrev pos : ℕ → GName → RefT Position
@@ -163,9 +163,9 @@ module _ {M : Type 1} (𝓤 : URA M) (H : Heap 𝓤) (A : Atoms 𝓤) (W : Given
   made r m w is fits = LL.owes D.the-type D′.the-laws (res r m) (EL.owes S.the-type S′.the-laws r (EL.owed S.the-type S′.the-laws r w is), ((refl, fits), tt))
 
   exits : (r : Verdict) (m : ℕ) (zs : List ℕ) → Is D.the-row (res r m) (LL.vals D.the-type D′.the-laws (res r m)) → Said r m zs → length zs ≡ length ys
-      → ent 𝓤 (⋆ 𝓤 H A ((‵ (flft κ₁ q₁) ⊛ ‵ ftrue) ∷ ‵ (flft κ₀ q₀) ∷ ‵ (finally u16 γ′ zs) ∷ ‵ Stream ∷ [])) (Post (LL.val D.the-type D′.the-laws (res r m)))
+      → ent 𝓤 (⋆ 𝓤 H A ((‵ (flft κ₁ q₁) ⊛ ‵ ftrue) ∷ ‵ (flft κ₀ q₀) ∷ ‵ (finally u32 γ′ zs) ∷ ‵ Stream ∷ [])) (Post (LL.val D.the-type D′.the-laws (res r m)))
   exits r m zs is e len =
-      qed W ((‵ (flft κ₁ q₁) ⊛ ‵ ftrue) ∷ ‵ (flft κ₀ q₀) ∷ ‵ (finally u16 γ′ zs) ∷ ‵ Stream ∷ []) ∵
+      qed W ((‵ (flft κ₁ q₁) ⊛ ‵ ftrue) ∷ ‵ (flft κ₀ q₀) ∷ ‵ (finally u32 γ′ zs) ∷ ‵ Stream ∷ []) ∵
       suffices ! _ (ends-at 𝓤 H A draw-from.ended stayed (draw-from.clauses 𝓤 H A at-mem run) W (((κ₀, (κ₁, tt)), (q₀, (q₁, tt)), tt, a, vals), tt)
       (LL.val D.the-type D′.the-laws (res r m)) (res r m) (tt, (tt, (tt, (zs, tt)))) (tt, (tt, (tt, (len, tt))))) $ says ! e $
       move ! (1 ∷ 0 ∷ []) $ join ! $ frame ! $ nothing ! $ move ! (1 ∷ 0 ∷ []) $ fjoin ! $
@@ -174,15 +174,15 @@ module _ {M : Type 1} (𝓤 : URA M) (H : Heap 𝓤) (A : Atoms 𝓤) (W : Given
       owned ! D.the-row (Is D.the-row) (LL.makes D.the-type D′.the-plain 𝓤 H A) (res r m) _ is $ move ! (1 ∷ 0 ∷ []) $ done !
 
   module _ (C : Calls 𝓤 H) (Λ : Loops 𝓤 H) (fm : FmC 𝓤 H (W .laws) C) (known : Triple 𝓤 (C #draw) (Draw 𝓤 H A at-mem run)) where
-    walk : Is (ShrSlice (named 0) κ₀ u16) t (tv ∷ []) → Room u16 (length ys) → ent 𝓤 (onEntry 𝓤 H A draw-from.signature (κ₀, (κ₁, tt)) (q₀, (q₁, tt)) a vals)
+    walk : Is (ShrSlice (named 0) κ₀ u32) t (tv ∷ []) → Room u32 (length ys) → ent 𝓤 (onEntry 𝓤 H A draw-from.signature (κ₀, (κ₁, tt)) (q₀, (q₁, tt)) a vals)
         (WpFn 𝓤 H C Λ code.function (tv ∷ vint w64 n ∷ vint w64 l ∷ xv ∷ []) Post)
     walk p room =
-        qed W ((‵ (flft κ₀ q₀) ⊛ ‵ (flft κ₁ q₁) ⊛ ‵ ftrue) ∷ ‵ (owns (ShrSlice (named 0) κ₀ u16 ∷ usize ∷ usize ∷ MutSlice (named 1) κ₁ u16 ∷ []) a vals) ∷ [])
+        qed W ((‵ (flft κ₀ q₀) ⊛ ‵ (flft κ₁ q₁) ⊛ ‵ ftrue) ∷ ‵ (owns (ShrSlice (named 0) κ₀ u32 ∷ usize ∷ usize ∷ MutSlice (named 1) κ₁ u32 ∷ []) a vals) ∷ [])
         ∵
         enter ! C Λ code.function (tv ∷ vint w64 n ∷ vint w64 l ∷ xv ∷ []) _ $
         alloc1 ! (λ l₀. alloc1 ! (λ l₁. alloc1 ! (λ l₂. alloc1 !
         (λ l₃. alloc1 ! (λ l₄. alloc1 ! (λ l₅. alloc1 ! (λ l₆. alloc1 ! (λ l₇. alloc1 ! (λ l₈. alloc1 ! (λ l₉. alloc1 ! (λ l₁₀. alloc0 ! $ params1 ! $
-        pass1 ! (init ! 18 refl (shr-slice-lawful 𝓤 H A W (named 0) κ₀ u16 .typed t (tv ∷ []) p .0)) $ pass1 !
+        pass1 ! (init ! 18 refl (shr-slice-lawful 𝓤 H A W (named 0) κ₀ u32 .typed t (tv ∷ []) p .0)) $ pass1 !
         (init ! 16 refl (tt, record { fits = n-fits })) $ pass1 ! (init ! 14 refl (tt, record { fits = l-fits })) $ pass1 !
         (init ! 12 refl (tt, (tt, (record { fits = room .0 }, tt)))) $ pass0 ! $
         -- [_10; …; _0; …; the tokens; what the parameters own]
@@ -199,7 +199,7 @@ module _ {M : Type 1} (𝓤 : URA M) (H : Heap 𝓤) (A : Atoms 𝓤) (W : Given
         (lends-ref 𝓤 H A W T.the-row (named 0) (ν ∷ []) (record { at = n }) l₅ 0) $ await ! tt $ pick ! (λ δ. split ! $
         -- [the loan; the lender's part; ν's token; _10; …]; what the callee asks; the stream is copied
         move ! (25 ∷ []) $ fsplit ! $ move ! (1 ∷ []) $ fsplit ! $ drop ! $ fsplit ! $ drop ! $ fsplit ! $ move ! (2 ∷ []) $ use1 W (‵ Stream ⊛ ‵ Stream)
-        (shr-slice-copy 𝓤 H A W (named 0) κ₀ u16 .twice t (tv ∷ [])) $ split ! $
+        (shr-slice-copy 𝓤 H A W (named 0) κ₀ u32 .twice t (tv ∷ [])) $ split ! $
         move ! (28 ∷ []) $ split ! $ move ! (8 ∷ 1 ∷ []) $ join ! $ move ! (1 ∷ 0 ∷ []) $ join ! $ move ! (5 ∷ 3 ∷ []) $ fjoin ! $ move ! (1 ∷ 2 ∷ 0 ∷ []) $
         use3 W (raw (Draw 𝓤 H A at-mem run .pre (to ν l₅ δ))) (goes ν l₅ δ) $
         -- [the callee's; the stream; …; the lender's part; _10; …; _6; …; …; _4; …; _0; …]
@@ -244,7 +244,7 @@ module _ {M : Type 1} (𝓤 : URA M) (H : Heap 𝓤) (A : Atoms 𝓤) (W : Given
       (WpFn 𝓤 H C Λ code.function) (draw-from.clauses 𝓤 H A mem run)
   draw-from-walks C Λ fm known = walked 𝓤 H A draw-from.ended stayed (draw-from.clauses 𝓤 H A mem run) (WpFn 𝓤 H C Λ code.function)
       (λ κs. (slice-vals, (uint-vals w64, (uint-vals w64, (slice-vals, tt)))))
-      (λ κs. (shr-slice-tells (named 0) (κs .0) u16, (uint-tells w64, (uint-tells w64, (mut-slice-tells (named 1) (κs .1 .0) u16, tt)))))
+      (λ κs. (shr-slice-tells (named 0) (κs .0) u32, (uint-tells w64, (uint-tells w64, (mut-slice-tells (named 1) (κs .1 .0) u32, tt)))))
       (λ κs qs bounds a g are. via 𝓤 _ (fst∗ 𝓤 _ (emp 𝓤))
       (walk 𝓤 H A W mem run (κs .0) (κs .1 .0) (qs .0) (qs .1 .0) (a .0) (a .1 .0) (a .1 .1 .0)
       (a .1 .1 .1 .0 .ptr .0) (a .1 .1 .1 .0 .ptr .1) (a .1 .1 .1 .0 .name) (a .1 .1 .1 .0 .now) (are .1 .0 .1) (are .1 .1 .0 .1) C Λ fm known (are .0)
@@ -255,10 +255,10 @@ draw-from-meets : {M : Type 1} (𝓤 : URA M) (H : Heap 𝓤) (A : Atoms 𝓤) �
     → Meets 𝓤 H A draw-from.signature (WpFn 𝓤 H (𝓣 .C) (𝓣 .Λ) code.function) (draw-from.spec 𝓤 H A mem run)
 draw-from-meets 𝓤 H A W mem run 𝓣 known =
     walk-meets 𝓤 H A draw-from.ended stayed W (
-      goes-none-slice 𝓤 H A W 2 (0 ∷ []) tt (plain (λ _. u16)) yes,
+      goes-none-slice 𝓤 H A W 2 (0 ∷ []) tt (plain (λ _. u32)) yes,
       (
         goes-none 𝓤 H A W 2 (λ _. usize) yes (λ κs x f. refl),
-        (goes-none 𝓤 H A W 2 (λ _. usize) yes (λ κs x f. refl), (goes-gave-slice 𝓤 H A W 2 1 tt (plain (λ _. u16)), tt)),
+        (goes-none 𝓤 H A W 2 (λ _. usize) yes (λ κs x f. refl), (goes-gave-slice 𝓤 H A W 2 1 tt (plain (λ _. u32)), tt)),
       ),
     )
     (draw-from.clauses 𝓤 H A mem run)
