@@ -1,0 +1,5 @@
+pub mod Sizes
+pub mod Powers
+pub mod Exact
+pub mod Lookup
+pub mod Verdicts

@@ -1,0 +1,97 @@
+// Whether a number of 32 bits is prime: by divisors while they are cheap, then by one power of 2, and last by a list. Of the numbers with no divisor below
+// 1,627 whose power says that they may be primes, the list has those that are none (the crate pseudoprimes).
+ghost use mathlib.Core.Path.{_≡_};
+ghost use Prim.Native.Nat.{_-_, _*_, _%_, _^_, _≤_, _<_};
+ghost use Rattle.residues.specs.Primes.{isPrime};
+
+mod divisors;
+mod listed;
+
+use divisors::high_divisor;
+use divisors::low_divisor;
+use listed::listed;
+
+// Below this, odd divisors up to the root are the quickest. Not much less would do: the first table goes up to 251, and each prime divides itself.
+const SMALL: u32 = 256;
+
+// What has no divisor below d is a prime where it is below d squared. The tables have every odd prime below 257, and below 1,627.
+const LOW_SQUARE: u32 = 257 * 257;
+
+const HIGH_SQUARE: u32 = 1627 * 1627;
+
+// The highest 5 of 32 bits are an exponent below 32, whose power is a shift; the 27 after them are taken one by one.
+const LATER_BITS: u32 = 27;
+
+// The square of x, doubled where bit is 1, modulo n.
+fn squared(n: u64, x: u64, bit: u32) -> u64
+    requires { ⌜ (x < n) × (n < 2 ^ 32) × (bit < 2) ⌝ }
+    ensures { λ r. ⌜ r ≡ x * x * 2 ^ bit % n ⌝ }
+{
+    let y = x * x % n;
+    if bit == 0 {
+        return y;
+    }
+    let room = n - y;
+    if y >= room { y - room } else { y + y }
+}
+
+// 2 to the power q - 1, modulo q.
+fn power_of_two(q: u32) -> u32
+    requires { ⌜ 2 ≤ q ⌝ }
+    ensures { λ r. ⌜ r ≡ 2 ^ (q - 1) % q ⌝ }
+{
+    let n = q as u64;
+    let e = q - 1;
+    let mut s = LATER_BITS;
+    let mut x = (1u64 << (e >> LATER_BITS)) % n;
+    while s > 0 {
+        s -= 1;
+        x = squared(n, x, (e >> s) % 2);
+    }
+    x as u32
+}
+
+// By odd divisors up to the root.
+fn small_prime(q: u32) -> bool
+    requires { ⌜ (2 ≤ q) × (q < 256) × (q % 2 ≡ 1) ⌝ }
+    ensures { λ r. ⌜ r ≡ isPrime q ⌝ }
+{
+    let mut d: u32 = 3;
+    while d * d <= q {
+        if q % d == 0 {
+            return false;
+        }
+        d += 2;
+    }
+    true
+}
+
+pub fn is_prime(q: u32) -> bool
+    ensures { λ r. ⌜ r ≡ isPrime q ⌝ }
+{
+    if q < 2 {
+        return false;
+    }
+    if q % 2 == 0 {
+        return q == 2;
+    }
+    if q < SMALL {
+        return small_prime(q);
+    }
+    if low_divisor(q) {
+        return false;
+    }
+    if q < LOW_SQUARE {
+        return true;
+    }
+    if high_divisor(q) {
+        return false;
+    }
+    if q < HIGH_SQUARE {
+        return true;
+    }
+    if power_of_two(q) != 1 {
+        return false;
+    }
+    !listed(q)
+}
