@@ -1,16 +1,19 @@
 -- What the counts of a plan satisfy, where they are within their bounds.
-use Prim.Native.Nat.{ℕ, _+_, _-_, _*_, _%_, _^_, _≤_, _<_}
-use mathlib.Core.Path.{_≡_, refl, ap, _∙_, subst}
+use Prim.Native.Nat.{ℕ, zero, suc, _+_, _-_, _*_, _/_, _%_, _^_, _≤_, _<_}
+use mathlib.Core.Path.{_≡_, ap, _∙_}
 use mathlib.Core.Bool.{Bool, true, not, _&&_}
+use mathlib.Core.List.{List, [], _∷_}
 use mathlib.Core.Logic.{_≢_}
-use native.Mathlib.Nat.{mul-le-mul}
+use native.Mathlib.Nat.{mul-le-mul, mod-lt, div-add-mod', div-lt-iff-lt-mul}
 use native.Mathlib.Decide.{decLt}
 use native.Mathlib.Omega.{arith}
-use lib.Dec.{T, leb, eqb, leb→le, eqb→eq}
+use lib.Dec.{T, T-not, leb, eqb, leb→le, eqb→eq}
+use lib.ListN.{length}
 use borrow.Author.Tests.{eq-eqb}
-use Rattle.lists.specs.Search.{anyTo, allTo}
+use Rattle.lists.specs.Lists.{at}
+use Rattle.lists.specs.Search.{allTo}
 use Rattle.residues.specs.Primes.{Prime}
-use Rattle.lists.proofs.Searches.{T→true, true→T, T-and, any-found, all-at}
+use Rattle.lists.proofs.Searches.{T→true, true→T, T-and, all-at}
 use Rattle.residues.proofs.PrimeLaws.{undivided-prime}
 use Rattle.plans.specs.declared.Plan.{Plan}
 use Rattle.plans.specs.Plans.{usersOf, countsFit, lengthFits, inBounds, LargestPrime}
@@ -67,37 +70,57 @@ length-known L e =
     let (f, s) = T-and (leb 1 L) (leb L 64) (true→T (lengthFits L) e) in
     (leb→le 1 L f, leb→le L 64 s)
 
--- 65,521 is the largest prime of 16 bits: by a test of the fourteen numbers after it, each of which has a divisor below 20
-divisible : allTo 14 (λ k. anyTo 20 (λ d. leb 2 d && eqb ((65522 + k) % d) 0)) ≡ true
-unfolding allTo anyTo
-divisible = refl
+-- ---- the largest prime of a width
 
-none-above : (q : ℕ) → q < 65536 → Prime q → q ≤ 65521
-none-above q h p = go (decLt 65521 q)
+-- does nothing from 2 below 2 + m n divide q? In m tests of n, so that none is nested deep
+abbrev undivided : ℕ → ℕ → ℕ → Bool
+undivided q m n = allTo m (λ i. allTo n (λ j. not (eqb (q % (2 + (i * n + j))) 0)))
+
+undivided-none : (q m n : ℕ) → T (undivided q m n) → (e : ℕ) → 2 ≤ e → e < m * n → q % e ≢ 0
+undivided-none q m n t e two h divides =
+    let k : ℕ = e - 2 in
+    let pos : 0 < n = some n h in
+    let row : k / n < m = div-lt-iff-lt-mul pos .1 (omega arith) in
+    let z : q % (2 + (k / n * n + k % n)) ≡ 0 = ap (λ (d : ℕ). q % d) (omega (arith, div-add-mod' k n)) ∙ divides in
+    let tests = all-at m (λ i. allTo n (λ j. not (eqb (q % (2 + (i * n + j))) 0))) t (k / n) row in
+    let test = all-at n (λ j. not (eqb (q % (2 + (k / n * n + j))) 0)) tests (k % n) (mod-lt k pos) in
+    T-not (eqb (q % (2 + (k / n * n + k % n))) 0) test (true→T _ (eq-eqb (q % (2 + (k / n * n + k % n))) 0 z))
   where
-    go : Dec (65521 < q) → q ≤ 65521
-    go (no n) = omega (arith, n)
-    go (yes l) =
-        let (d, few, t) = any-found 20 (λ d. leb 2 d && eqb ((65522 + (q - 65522)) % d) 0)
-        (all-at 14 (λ k. anyTo 20 (λ d. leb 2 d && eqb ((65522 + k) % d) 0)) (true→T _ divisible) (q - 65522) (omega arith)) in
-        let (two, none) = T-and (leb 2 d) (eqb ((65522 + (q - 65522)) % d) 0) t in
-        absurd (p .none d (leb→le 2 d two) (omega arith) (ap (λ (n : ℕ). n % d) (omega arith) ∙ eqb→eq ((65522 + (q - 65522)) % d) 0 none))
+    some : (n : ℕ) → e < m * n → 0 < n
+    some zero l = absurd (omega arith)
+    some (suc n) l = omega arith
 
--- and it is a prime: nothing from 2 to its root divides it
-undivided : allTo 254 (λ k. not (eqb (65521 % (2 + k)) 0)) ≡ true
-unfolding allTo
-undivided = refl
+-- does each number of the list divide the one that stands in its place after q?
+abbrev divided : ℕ → List ℕ → Bool
+divided q ds = allTo (length ds) (λ k. leb 2 (at ds k) && leb (at ds k) q && eqb ((suc q + k) % at ds k) 0)
+
+divided-none : (q : ℕ) (ds : List ℕ) → T (divided q ds) → (p : ℕ) → p < suc q + length ds → Prime p → p ≤ q
+divided-none q ds t p h prime = go (decLt q p)
+  where
+    go : Dec (q < p) → p ≤ q
+    go (no n) = omega arith
+    go (yes l) =
+        let k : ℕ = p - suc q in
+        let d : ℕ = at ds k in
+        let test = all-at (length ds) (λ k. leb 2 (at ds k) && leb (at ds k) q && eqb ((suc q + k) % at ds k) 0) t k (omega arith) in
+        let (fit, e) = T-and (leb 2 d && leb d q) (eqb ((suc q + k) % d) 0) test in
+        let (two, low) = T-and (leb 2 d) (leb d q) fit in
+        let small : d ≤ q = leb→le d q low in
+        absurd (prime .none d (leb→le 2 d two) (omega arith) (ap (λ (n : ℕ). n % d) (omega arith) ∙ eqb→eq ((suc q + k) % d) 0 e))
+
+-- q is a prime, by all divisors up to its root, and each number after it up to the width has a divisor
+largest-by : (q m n : ℕ) (ds : List ℕ) → 2 ≤ q → q < m * n * (m * n) → T (undivided q m n) → T (divided q ds) → LargestPrime (suc q + length ds) q
+largest-by q m n ds two h t u =
+    record {
+      prime = undivided-prime q (m * n) two h (record { none = undivided-none q m n t });
+      fits = omega arith;
+      largest = divided-none q ds u;
+    }
 
 pub largest-prime : LargestPrime (2 ^ 16) 65521
-largest-prime =
-    record {
-      prime = undivided-prime 65521 256 (omega arith) (omega arith) (record { none = none });
-      fits = omega arith;
-      largest = none-above;
-    }
-  where
-    none : (e : ℕ) → 2 ≤ e → e < 256 → 65521 % e ≢ 0
-    none e two h divides =
-        let t = all-at 254 (λ k. not (eqb (65521 % (2 + k)) 0)) (true→T _ undivided) (e - 2) (omega arith) in
-        let z : 65521 % (2 + (e - 2)) ≡ 0 = ap (λ (n : ℕ). 65521 % n) (omega arith) ∙ divides in
-        absurd (subst (λ (b : Bool). T (not b)) (eq-eqb (65521 % (2 + (e - 2))) 0 z) t)
+unfolding allTo
+largest-prime = largest-by 65521 16 16 (2 ∷ 3 ∷ 2 ∷ 5 ∷ 2 ∷ 7 ∷ 2 ∷ 3 ∷ 2 ∷ 19 ∷ 2 ∷ 13 ∷ 2 ∷ 3 ∷ []) (omega arith) (omega arith) tt tt
+
+pub largest-prime-32 : LargestPrime (2 ^ 32) 4294967291
+unfolding allTo
+largest-prime-32 = largest-by 4294967291 256 256 (2 ∷ 9241 ∷ 2 ∷ 3 ∷ []) (omega arith) (omega arith) tt tt
