@@ -9,9 +9,9 @@ ghost use Rattle.masking.specs.Blocks.{uploadOf, unmaskedOf, blockCode, 
 use arithmetic::Symbol;
 use arithmetic::add_symbols;
 use arithmetic::all_below;
-use arithmetic::is_prime;
 use arithmetic::sub_symbols;
 use plans::length_fits;
+use primes::is_prime;
 use refusals::Refusal;
 use refusals::Verdict;
 

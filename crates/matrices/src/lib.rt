@@ -10,6 +10,7 @@ ghost use Rattle.matrices.specs.Tables.{hasPivot, clearedBy, eliminatedF
 ghost use Rattle.matrices.specs.Rank.{rankOf};
 ghost use Rattle.matrices.specs.Entries.{outcomeOf, rankChecks};
 use arithmetic::Symbol;
+use primes::is_prime;
 use refusals::Refusal;
 use refusals::Verdict;
 
@@ -224,7 +225,7 @@ fn check_rank(q: Symbol, rows: usize, cols: usize, table: &[Symbol]) -> Verdict
     if rows * cols != table.len() {
         return Verdict::Refused(Refusal::WrongLength);
     }
-    if !arithmetic::is_prime(q) {
+    if !is_prime(q) {
         return Verdict::Refused(Refusal::NotPrime);
     }
     if !arithmetic::all_below(q, table) {

@@ -117,10 +117,6 @@ largest-by q m n ds two h t u =
       largest = divided-none q ds u;
     }
 
-pub largest-prime : LargestPrime (2 ^ 16) 65521
+pub largest-prime : LargestPrime (2 ^ 32) 4294967291
 unfolding allTo
-largest-prime = largest-by 65521 16 16 (2 ∷ 3 ∷ 2 ∷ 5 ∷ 2 ∷ 7 ∷ 2 ∷ 3 ∷ 2 ∷ 19 ∷ 2 ∷ 13 ∷ 2 ∷ 3 ∷ []) (omega arith) (omega arith) tt tt
-
-pub largest-prime-32 : LargestPrime (2 ^ 32) 4294967291
-unfolding allTo
-largest-prime-32 = largest-by 4294967291 256 256 (2 ∷ 9241 ∷ 2 ∷ 3 ∷ []) (omega arith) (omega arith) tt tt
+largest-prime = largest-by 4294967291 256 256 (2 ∷ 9241 ∷ 2 ∷ 3 ∷ []) (omega arith) (omega arith) tt tt

@@ -15,7 +15,8 @@ abbrev pub usersOf : Plan → ℕ
 usersOf P = P .clusters * P .size
 
 -- ---- "Bounds: U and V from 1 to 8, U × V at most 16, T from 0 to U × V, R from 1 to 16, q a prime from 2 to 65,521, block length L from 1 to 64. The bounds
--- belong to the plan's type and stand there by name": the constructor's promise says that the constants of the plan's type are these
+-- belong to the plan's type and stand there by name": the constructor's promise says that the constants of the plan's type are these. Document 02,
+-- Q-7: "Let q go up to 4,294,967,291", which is the largest prime of 32 bits
 
 abbrev pub maxClusters : ℕ
 maxClusters = 8

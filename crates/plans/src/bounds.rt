@@ -6,7 +6,7 @@ ghost use Rattle.plans.specs.Plans.{maxClusters, maxSize, maxUsers, maxR
 use crate::Plan;
 use crate::Planned;
 use arithmetic::Symbol;
-use arithmetic::is_prime;
+use primes::is_prime;
 use refusals::Refusal;
 
 // Whether U, V and T are within their bounds.
@@ -54,8 +54,8 @@ impl Plan {
     // The longest block.
     pub const MAX_LENGTH: usize = 64;
 
-    // The largest prime that a symbol's 16 bits hold: a larger q is no prime, so that no test of its own is needed.
-    pub const MAX_Q: Symbol = 65521;
+    // The largest prime that a symbol's 32 bits hold: a larger q is no prime, so that no test of its own is needed.
+    pub const MAX_Q: Symbol = 4294967291;
 
     // Whether the counts are within their bounds.
     pub fn in_bounds(self) -> bool
@@ -77,7 +77,7 @@ impl Plan {
         ensures clusters { λ _. do ⌜ ((← ⟦Plan::MAX_CLUSTERS⟧ .entry) ≡ maxClusters) × ((← ⟦Plan::MAX_SIZE⟧ .entry) ≡ maxSize) ⌝ }
         ensures users { λ _. do ⌜ ((← ⟦Plan::MAX_USERS⟧ .entry) ≡ maxUsers) × ((← ⟦Plan::MAX_RATE⟧ .entry) ≡ maxRate) ⌝ }
         ensures length { λ _. do ⌜ (← ⟦Plan::MAX_LENGTH⟧ .entry) ≡ maxLength ⌝ }
-        ensures prime { λ _. do ⌜ LargestPrime (2 ^ 16) (← ⟦Plan::MAX_Q⟧ .entry) ⌝ }
+        ensures prime { λ _. do ⌜ LargestPrime (2 ^ 32) (← ⟦Plan::MAX_Q⟧ .entry) ⌝ }
     {
         let made = Plan {
             clusters,

@@ -5,7 +5,7 @@ ghost use Rattle.plans.specs.Plans.{tableChecks};
 use crate::Plan;
 use arithmetic::Symbol;
 use arithmetic::all_below;
-use arithmetic::is_prime;
+use primes::is_prime;
 use refusals::Refusal;
 use refusals::Verdict;
 

@@ -11,10 +11,10 @@ ghost use Rattle.plans.specs.Plans.{usersOf, inBounds, plannedCode, plannedPlan
 ghost use Rattle.records.specs.Records.{word, bytesOf, wordsOf, bytesOfAll, recordSize, recordOf, distance, start};
 ghost use Rattle.records.specs.Records.{badTrailer, planRead, readCode, planAfter, tableAfter, padded, writeCode, bytesAfter};
 use arithmetic::Symbol;
-use arithmetic::is_prime;
 use plans::Plan;
 use plans::Planned;
 use plans::check_plan;
+use primes::is_prime;
 use refusals::Refusal;
 use refusals::Verdict;
 
