@@ -1,7 +1,8 @@
 pub mod RecordLaws
 pub mod RecordChecks
 pub mod Bytes
+mod Widths
 mod PlanSizes
-mod Fills
+mod Padded
 mod Trailers
 mod RecordExamples

@@ -11,10 +11,12 @@ use borrow.Author.Tests.{not-false, eqb-true}
 use Rattle.refusals.specs.Codes.{accepted}
 use Rattle.refusals.proofs.CodeLaws.{none-holds}
 use Rattle.residues.specs.Primes.{isPrime, allBelow}
-use Rattle.lists.proofs.Searches.{true→T, T-and}
+use Rattle.lists.proofs.Searches.{T→true, true→T, T-and}
 use Rattle.plans.specs.declared.Plan.{Plan}
 use Rattle.plans.specs.Plans.{usersOf, inBounds}
-use Rattle.records.specs.Records.{wordsOf, recordSize, distance, start, badTrailer, planRead, tableRead, readChecks, readCode, writeChecks, writeCode}
+use Rattle.records.specs.Bytes.{numbersAt}
+use Rattle.records.specs.Records.{widthOf, sizeWith, widthIn, recordSize, distance, start, badTrailer, planRead, tableRead, readChecks, readCode}
+use Rattle.records.specs.Records.{writeChecks, writeCode}
 use Rattle.records.proofs.Trailers.{trailer-of}
 
 -- ---- reading
@@ -22,41 +24,50 @@ use Rattle.records.proofs.Trailers.{trailer-of}
 pub record Readable (B out : List ℕ) : Type 0 where
   pub trailer : badTrailer B ≡ false
   pub bounds : inBounds (planRead B) ≡ true
-  pub size : distance B ≡ recordSize (planRead B)
+  pub size : distance B ≡ sizeWith (widthIn B) (planRead B)
   pub lent : length out ≡ 256
   pub prime : isPrime (planRead B .q) ≡ true
+  pub kind : widthIn B ≡ widthOf (planRead B .q)
   pub below : allBelow (planRead B .q) (tableRead B) ≡ true
 
 pub readable : (B out : List ℕ) → accepted ≡ readCode B out → Readable B out
 readable B out e =
     let w = none-holds (readChecks B out) tt e in
     let P : Plan = planRead B in
-    let sized : Bool = eqb (distance B) (recordSize P) in
+    let sized : Bool = eqb (distance B) (sizeWith (widthIn B) P) in
     let whole : Bool = eqb (length out) 256 in
+    let prime : Bool = isPrime (P .q) in
+    let kind : Bool = eqb (widthIn B) (widthOf (P .q)) in
     let (s, l) = T-and sized whole (true→T (sized && whole) (not-false (sized && whole) (search w))) in
+    let (p, k) = T-and prime kind (true→T (prime && kind) (not-false (prime && kind) (search w))) in
     record {
       trailer = search w;
       bounds = not-false (inBounds P) (search w);
-      size = eqb→eq (distance B) (recordSize P) s;
+      size = eqb→eq (distance B) (sizeWith (widthIn B) P) s;
       lent = eqb→eq (length out) 256 l;
-      prime = not-false (isPrime (P .q)) (search w);
+      prime = T→true prime p;
+      kind = eqb→eq (widthIn B) (widthOf (P .q)) k;
       below = not-false (allBelow (P .q) (tableRead B)) (search w);
     }
 
--- the words that the plan in the bytes asks for
-module _ (B : List ℕ) (P : Plan) (n s : ℕ) (is-plan : P ≡ planRead B) (count : n ≡ usersOf P * P .rate) (first : s ≡ start B) where
+-- the numbers that the plan in the bytes asks for
+module _ (B : List ℕ) (P : Plan) (w n s : ℕ) (is-plan : P ≡ planRead B) (wide : w ≡ widthIn B) (count : n ≡ usersOf P * P .rate) (first : s ≡ start B) where
   pub read-count : n ≡ usersOf (planRead B) * planRead B .rate
   read-count = count ∙ ap (λ (X : Plan). usersOf X * X .rate) is-plan
 
-  pub read-words : wordsOf n B (s + 6) ≡ tableRead B
-  read-words = ap₂ (λ (m i : ℕ). wordsOf m B (i + 6)) read-count first
+  pub read-numbers : numbersAt w n B (s + 4 + w) ≡ tableRead B
+  read-numbers =
+      ap₂ (λ (v m : ℕ). numbersAt v m B (s + 4 + v)) wide read-count
+      ∙ ap (λ (i : ℕ). numbersAt (widthIn B) (usersOf (planRead B) * planRead B .rate) B (i + 4 + widthIn B)) first
 
-  pub read-below : (t : Bool) → t ≡ allBelow (P .q) (wordsOf n B (s + 6)) → allBelow (planRead B .q) (tableRead B) ≡ t
-  read-below t e = sym (e ∙ ap₂ (λ (X : Plan) (K : List ℕ). allBelow (X .q) K) is-plan read-words)
+  pub read-below : (t : Bool) → t ≡ allBelow (P .q) (numbersAt w n B (s + 4 + w)) → allBelow (planRead B .q) (tableRead B) ≡ t
+  read-below t e = sym (e ∙ ap₂ (λ (X : Plan) (K : List ℕ). allBelow (X .q) K) is-plan read-numbers)
 
   -- they lie in the buffer
-  pub words-inside : badTrailer B ≡ false → distance B ≡ recordSize (planRead B) → s + 6 + 2 * n ≤ length B
-  words-inside good e = omega (arith, first, read-count, e, trailer-of B good .inside)
+  pub numbers-inside : badTrailer B ≡ false → distance B ≡ sizeWith (widthIn B) (planRead B) → s + 4 + w + w * n ≤ length B
+  numbers-inside good e =
+      let size : w * n ≡ widthIn B * (usersOf (planRead B) * planRead B .rate) = ap₂ _*_ wide read-count in
+      omega (arith, first, wide, e, trailer-of B good .inside)
 
 -- ---- writing
 

@@ -9,13 +9,13 @@ use lib.ListN.{length}
 use borrow.Author.Tests.{ltb-false, eqb-true, not-false, le-ltb, eq-eqb}
 use Rattle.lists.proofs.Searches.{false→not-T}
 use Rattle.lists.specs.Lists.{at}
-use Rattle.records.specs.Records.{distance, start, badTrailer}
+use Rattle.records.specs.Records.{markOf, widthIn, distance, start, badTrailer}
 
 pub record Trailer (B : List ℕ) : Type 0 where
   pub four : 4 ≤ length B
   pub first-mark : at B (length B - 2) ≡ 0x4b
-  pub last-mark : at B (length B - 1) ≡ 0x50
-  pub least : 10 ≤ distance B
+  pub last-mark : at B (length B - 1) ≡ markOf (widthIn B)
+  pub least : 8 + widthIn B ≤ distance B
   pub inside : distance B ≤ length B
 
 neither : (a b : Bool) → (a || b) ≡ false → (a ≡ false) × (b ≡ false)
@@ -26,8 +26,8 @@ pub trailer-of : (B : List ℕ) → badTrailer B ≡ false → Trailer B
 trailer-of B e =
     let a : Bool = ltb (length B) 4 in
     let b : Bool = eqb (at B (length B - 2)) 0x4b in
-    let c : Bool = eqb (at B (length B - 1)) 0x50 in
-    let d : Bool = ltb (distance B) 10 in
+    let c : Bool = eqb (at B (length B - 1)) (markOf (widthIn B)) in
+    let d : Bool = ltb (distance B) (8 + widthIn B) in
     let (rest, inside) = neither (a || not b || not c || d) (ltb (length B) (distance B)) e in
     let (marks, least) = neither (a || not b || not c) d rest in
     let (front, last) = neither (a || not b) (not c) marks in
@@ -35,8 +35,8 @@ trailer-of B e =
     record {
       four = ltb-false (length B) 4 four;
       first-mark = eqb-true (at B (length B - 2)) 0x4b (not-false b mark);
-      last-mark = eqb-true (at B (length B - 1)) 0x50 (not-false c last);
-      least = ltb-false (distance B) 10 least;
+      last-mark = eqb-true (at B (length B - 1)) (markOf (widthIn B)) (not-false c last);
+      least = ltb-false (distance B) (8 + widthIn B) least;
       inside = ltb-false (length B) (distance B) inside;
     }
 
@@ -45,11 +45,11 @@ trailer-good B t =
     simp (
       le-ltb (length B) 4 (t .four),
       eq-eqb (at B (length B - 2)) 0x4b (t .first-mark),
-      eq-eqb (at B (length B - 1)) 0x50 (t .last-mark),
-      le-ltb (distance B) 10 (t .least),
+      eq-eqb (at B (length B - 1)) (markOf (widthIn B)) (t .last-mark),
+      le-ltb (distance B) (8 + widthIn B) (t .least),
       le-ltb (length B) (distance B) (t .inside),
     )
 
--- the record's first byte has at least ten bytes from it on
-pub start-room : (B : List ℕ) → badTrailer B ≡ false → start B + 10 ≤ length B
+-- the bytes from the record's first on: the counts, q and the trailer at least
+pub start-room : (B : List ℕ) → badTrailer B ≡ false → start B + (8 + widthIn B) ≤ length B
 start-room B e = let t = trailer-of B e in omega (arith, t .least, t .inside)

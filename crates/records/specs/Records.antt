@@ -1,6 +1,7 @@
--- Plan records (document 01, "Records and tapes"). "Reading a record: 5, 1, 4, 2, 3. Writing one: 1, 4 for the table, 2, 3, 4 for the buffer; neither vets."
-use Prim.Native.Nat.{ℕ, zero, suc, _+_, _-_, _*_, _/_, _%_}
-use mathlib.Core.Bool.{Bool, not, _&&_, _||_}
+-- Plan records (document 01, "Records and tapes"; document 02, Q-7). "Reading a record: 5, 1, 4, 2, 3. Writing one: 1, 4 for the table, 2, 3, 4 for the buffer;
+-- neither vets." There are two kinds of record, the old one and the wide one; they differ in the width alone, the bytes that q and each symbol have.
+use Prim.Native.Nat.{ℕ, zero, suc, _+_, _-_, _*_}
+use mathlib.Core.Bool.{Bool, cond, not, _&&_, _||_}
 use mathlib.Core.List.{List, [], _∷_, _++_}
 use lib.Dec.{ltb, eqb}
 use lib.ListN.{length, replicate}
@@ -10,47 +11,58 @@ use Rattle.residues.specs.Primes.{isPrime, allBelow}
 use Rattle.lists.specs.Lists.{at}
 use Rattle.plans.specs.declared.Plan.{Plan}
 use Rattle.plans.specs.Plans.{usersOf, inBounds, noPlan, tableChecks}
+use Rattle.records.specs.Bytes.{bytesOf, bytesOfAll, numberAt, numbersAt}
 
--- two bytes, low first
-abbrev pub word : List ℕ → ℕ → ℕ
-word bytes i = at bytes i + at bytes (i + 1) * 256
+-- ---- the two kinds
 
-abbrev pub bytesOf : ℕ → List ℕ
-bytesOf n = n % 256 ∷ n / 256 ∷ []
+-- "A plan with q of 65,536 or more has a wide record", "Smaller q keeps the old record"
+abbrev pub widthOf : ℕ → ℕ
+widthOf q = cond (ltb q 65536) 2 4
 
-unfoldable pub wordsOf : ℕ → List ℕ → ℕ → List ℕ
-wordsOf zero bytes i = []
-wordsOf (suc n) bytes i = word bytes i ∷ wordsOf n bytes (i + 2)
+-- the last byte of a record: of the bytes 4B 50 and "4B 51"
+abbrev pub markOf : ℕ → ℕ
+markOf width = cond (eqb width 2) 0x50 0x51
 
-unfoldable pub bytesOfAll : List ℕ → List ℕ
-bytesOfAll [] = []
-bytesOfAll (x ∷ l) = bytesOf x ++ bytesOfAll l
+-- D = 10 + 2 × U × V × R of the old record, and "D = 12 + 4 × U × V × R" of the wide one
+abbrev pub sizeWith : ℕ → Plan → ℕ
+sizeWith width P = 8 + width + width * (usersOf P * P .rate)
 
--- D = 10 + 2 × U × V × R
+-- the width by the record's own last byte
+abbrev pub widthIn : List ℕ → ℕ
+widthIn B = cond (eqb (at B (length B - 1)) 0x50) 2 4
+
+-- ---- the record of a plan
+
 abbrev pub recordSize : Plan → ℕ
-recordSize P = 10 + 2 * (usersOf P * P .rate)
+recordSize P = sizeWith (widthOf (P .q)) P
 
--- U, V, T, R; q; the rows; the distance back to the first byte; the bytes 4B 50
-unfoldable pub recordOf : Plan → List ℕ → List ℕ
-recordOf P K =
-    (P .clusters ∷ P .size ∷ P .limit ∷ P .rate ∷ bytesOf (P .q)) ++ bytesOfAll K ++ bytesOf (recordSize P) ++ (0x4b ∷ 0x50 ∷ [])
+-- U, V, T, R; q; the rows; the distance back to the first byte; the mark
+unfoldable pub recordWith : ℕ → Plan → List ℕ → List ℕ
+recordWith width P K =
+    (P .clusters ∷ P .size ∷ P .limit ∷ P .rate ∷ bytesOf width (P .q))
+    ++ bytesOfAll width K
+    ++ bytesOf 2 (sizeWith width P)
+    ++ (0x4b ∷ markOf width ∷ [])
+
+abbrev pub recordOf : Plan → List ℕ → List ℕ
+recordOf P K = recordWith (widthOf (P .q)) P K
 
 -- ---- reading, from the end of the buffer
 
 -- the distance of the trailer, and the place of the record's first byte
 abbrev pub distance : List ℕ → ℕ
-distance B = word B (length B - 4)
+distance B = numberAt 2 B (length B - 4)
 
 abbrev pub start : List ℕ → ℕ
 start B = length B - distance B
 
--- under four bytes, a wrong mark, a distance under 10 or beyond the buffer
+-- under four bytes, neither mark, a distance under 10 in an old record or under 12 in a wide one, or beyond the buffer
 abbrev pub badTrailer : List ℕ → Bool
 badTrailer B =
     ltb (length B) 4
     || not (eqb (at B (length B - 2)) 0x4b)
-    || not (eqb (at B (length B - 1)) 0x50)
-    || ltb (distance B) 10
+    || not (eqb (at B (length B - 1)) (markOf (widthIn B)))
+    || ltb (distance B) (8 + widthIn B)
     || ltb (length B) (distance B)
 
 -- the plan and the table that the bytes from the first on say
@@ -61,19 +73,20 @@ planRead B =
       size = at B (start B + 1);
       limit = at B (start B + 2);
       rate = at B (start B + 3);
-      q = word B (start B + 4);
+      q = numberAt (widthIn B) B (start B + 4);
     }
 
 abbrev pub tableRead : List ℕ → List ℕ
-tableRead B = wordsOf (usersOf (planRead B) * planRead B .rate) B (start B + 6)
+tableRead B = numbersAt (widthIn B) (usersOf (planRead B) * planRead B .rate) B (start B + 4 + widthIn B)
 
--- 4 where the distance is not the plan's, and where what is lent has not its exact lengths
+-- 4 where the distance is not the plan's, and where what is lent has not its exact lengths; 2 also where the record has not the width of its q: "A wide record
+-- with a smaller q is refused with 2."
 abbrev pub checksOf : List ℕ → Bool → List (Bool × Code)
 checksOf B lengths =
     (badTrailer B, code 5)
     ∷ (not (inBounds (planRead B)), code 1)
-    ∷ (not (eqb (distance B) (recordSize (planRead B)) && lengths), code 4)
-    ∷ (not (isPrime (planRead B .q)), code 2)
+    ∷ (not (eqb (distance B) (sizeWith (widthIn B) (planRead B)) && lengths), code 4)
+    ∷ (not (isPrime (planRead B .q) && eqb (widthIn B) (widthOf (planRead B .q))), code 2)
     ∷ (not (allBelow (planRead B .q) (tableRead B)), code 3)
     ∷ []
 

@@ -1,14 +1,16 @@
 // Records: a reader of plan records that starts from the end of a buffer, and a writer.
 ghost use mathlib.Core.Path.{_≡_};
-ghost use mathlib.Core.Bool.{true, false};
+ghost use mathlib.Core.Bool.{true, false, _&&_};
 ghost use mathlib.Core.List.{[], _∷_, _++_};
-ghost use Prim.Native.Nat.{_+_, _*_, _≤_, _<_};
+ghost use Prim.Native.Nat.{ℕ, _+_, _-_, _*_, _^_, _≤_, _<_};
+ghost use lib.Dec.{eqb};
 ghost use lib.ListN.{length};
-ghost use Rattle.refusals.specs.Codes.{verdictCode};
-ghost use Rattle.residues.specs.Primes.{allBelow};
+ghost use Rattle.refusals.specs.Codes.{accepted, verdictCode};
+ghost use Rattle.residues.specs.Primes.{isPrime, allBelow};
 ghost use Rattle.lists.specs.Lists.{at};
 ghost use Rattle.plans.specs.Plans.{usersOf, inBounds, plannedCode, plannedPlan};
-ghost use Rattle.records.specs.Records.{word, bytesOf, wordsOf, bytesOfAll, recordSize, recordOf, distance, start};
+ghost use Rattle.records.specs.Bytes.{bytesOf, bytesOfAll, numberAt, numbersAt};
+ghost use Rattle.records.specs.Records.{widthOf, markOf, sizeWith, widthIn, recordOf, distance, start};
 ghost use Rattle.records.specs.Records.{badTrailer, planRead, readCode, planAfter, tableAfter, padded, writeCode, bytesAfter};
 use arithmetic::Symbol;
 use plans::Plan;
@@ -18,25 +20,77 @@ use primes::is_prime;
 use refusals::Refusal;
 use refusals::Verdict;
 
-// The bytes before the symbols and after them.
-const HEAD: usize = 6;
+// The bytes that q and each symbol have: in an old record, and in a wide one.
+const NARROW: usize = 2;
+
+const WIDE: usize = 4;
+
+// The least q of a wide record.
+const LEAST_WIDE: Symbol = 65536;
+
+// U, V, T and R, a byte each, before q; and the bytes after the symbols.
+const COUNTS: usize = 4;
 
 const TRAILER: usize = 4;
 
-// The last two bytes of a record.
+// The bytes of the distance.
+const DISTANCE: usize = 2;
+
+// The last two bytes of a record; the last tells the two kinds apart.
 const FIRST_MARK: u8 = 0x4b;
 
-const LAST_MARK: u8 = 0x50;
+const NARROW_MARK: u8 = 0x50;
+
+const WIDE_MARK: u8 = 0x51;
+
+// What a byte is worth in terms of the byte before it.
+const BYTE: Symbol = 256;
 
 // The length of the table that is lent to the reader: the most symbols of a plan.
 pub const READ_TABLE: usize = 256;
 
-// Two bytes, low first.
-fn word_at(bytes: &[u8], i: usize) -> Symbol
-    requires { ⌜ i + 1 < length (now bytes) ⌝ }
-    ensures { λ r. ⌜ r ≡ word (now (bytes .entry)) i ⌝ }
+// The bytes of a symbol in the record of a plan with this q.
+fn width_of(q: Symbol) -> usize
+    ensures { λ r. ⌜ r ≡ widthOf q ⌝ }
 {
-    bytes[i] as Symbol + bytes[i + 1] as Symbol * 256
+    if q < LEAST_WIDE { NARROW } else { WIDE }
+}
+
+// The last byte of a record with symbols of this width.
+fn mark_of(width: usize) -> u8
+    ensures { λ r. ⌜ r ≡ markOf width ⌝ }
+{
+    if width == NARROW {
+        NARROW_MARK
+    } else {
+        WIDE_MARK
+    }
+}
+
+// The number of up to four bytes, low first.
+fn number_at(width: usize, bytes: &[u8], i: usize) -> Symbol
+    requires { ⌜ (width ≤ 4) × (i + width ≤ length (now bytes)) ⌝ }
+    ensures { λ r. ⌜ r ≡ numberAt width (now (bytes .entry)) i ⌝ }
+{
+    let mut n: Symbol = 0;
+    let mut k = width;
+    while k > 0 {
+        k -= 1;
+        n = n * BYTE + bytes[i + k] as Symbol;
+    }
+    n
+}
+
+// The width that the record's last byte says.
+fn width_in(bytes: &[u8]) -> usize
+    requires { ⌜ 1 ≤ length (now bytes) ⌝ }
+    ensures { λ r. ⌜ r ≡ widthIn (now (bytes .entry)) ⌝ }
+{
+    if bytes[bytes.len() - 1] == NARROW_MARK {
+        NARROW
+    } else {
+        WIDE
+    }
 }
 
 // The distance that the trailer says.
@@ -44,7 +98,7 @@ fn distance_in(bytes: &[u8]) -> usize
     requires { ⌜ 4 ≤ length (now bytes) ⌝ }
     ensures { λ r. ⌜ r ≡ distance (now (bytes .entry)) ⌝ }
 {
-    word_at(bytes, bytes.len() - TRAILER) as usize
+    number_at(DISTANCE, bytes, bytes.len() - TRAILER) as usize
 }
 
 // Whether the buffer does not end with a trailer whose record lies in the buffer.
@@ -58,11 +112,12 @@ fn bad_trailer(bytes: &[u8]) -> bool
     if bytes[n - 2] != FIRST_MARK {
         return true;
     }
-    if bytes[n - 1] != LAST_MARK {
+    let width = width_in(bytes);
+    if bytes[n - 1] != mark_of(width) {
         return true;
     }
     let distance = distance_in(bytes);
-    if distance < HEAD + TRAILER {
+    if distance < COUNTS + width + TRAILER {
         return true;
     }
     n < distance
@@ -88,7 +143,7 @@ fn plan_in(bytes: &[u8]) -> Plan
         size: bytes[start + 1] as usize,
         limit: bytes[start + 2] as usize,
         rate: bytes[start + 3] as usize,
-        q: word_at(bytes, start + 4),
+        q: number_at(width_in(bytes), bytes, start + COUNTS),
     }
 }
 
@@ -100,29 +155,39 @@ fn symbols(plan: Plan) -> usize
     plan.clusters * plan.size * plan.rate
 }
 
-// The bytes of the plan's record.
-fn record_size(plan: Plan) -> usize
-    requires { ⌜ inBounds plan ≡ true ⌝ }
-    ensures { λ r. ⌜ r ≡ recordSize plan ⌝ }
+// The bytes of a record of the plan with symbols of this width.
+fn size_with(width: usize, plan: Plan) -> usize
+    requires { ⌜ (inBounds plan ≡ true) × (width ≤ 4) ⌝ }
+    ensures { λ r. ⌜ r ≡ sizeWith width plan ⌝ }
 {
-    HEAD + TRAILER + 2 * symbols(plan)
+    COUNTS + width + TRAILER + width * symbols(plan)
 }
 
-// Whether each of `count` words is below q.
-fn words_below(q: Symbol, bytes: &[u8], from: usize, count: usize) -> bool
-    requires { ⌜ from + 2 * count ≤ length (now bytes) ⌝ }
-    ensures { λ r. ⌜ r ≡ allBelow q (wordsOf count (now (bytes .entry)) from) ⌝ }
+// Whether each of `count` numbers is below q.
+fn numbers_below(q: Symbol, width: usize, bytes: &[u8], from: usize, count: usize) -> bool
+    requires { ⌜ (width ≤ 4) × (from + width * count ≤ length (now bytes)) ⌝ }
+    ensures { λ r. ⌜ r ≡ allBelow q (numbersAt width count (now (bytes .entry)) from) ⌝ }
 {
     let mut i = from;
     let mut left = count;
     while left > 0 {
-        if word_at(bytes, i) >= q {
+        if number_at(width, bytes, i) >= q {
             return false;
         }
-        i += 2;
+        i += width;
         left -= 1;
     }
     true
+}
+
+// Whether q is a prime, and the record has the width of its q.
+fn check_prime(width: usize, q: Symbol) -> bool
+    ensures { λ r. ⌜ r ≡ isPrime q && eqb width (widthOf q) ⌝ }
+{
+    if !is_prime(q) {
+        return false;
+    }
+    width == width_of(q)
 }
 
 // The reader's checks. The symbols are tested where they lie, so that a refusal writes nothing.
@@ -137,40 +202,47 @@ fn check_record(bytes: &[u8], table: &[Symbol]) -> Planned
     if !plan.in_bounds() {
         return Planned::Refused(Refusal::OutOfBounds);
     }
-    if distance_in(bytes) != record_size(plan) {
+    let width = width_in(bytes);
+    if distance_in(bytes) != size_with(width, plan) {
         return Planned::Refused(Refusal::WrongLength);
     }
     if table.len() != READ_TABLE {
         return Planned::Refused(Refusal::WrongLength);
     }
-    if !is_prime(plan.q) {
+    if !check_prime(width, plan.q) {
         return Planned::Refused(Refusal::NotPrime);
     }
-    if !words_below(plan.q, bytes, start_in(bytes) + HEAD, symbols(plan)) {
+    if !numbers_below(
+        plan.q,
+        width,
+        bytes,
+        start_in(bytes) + COUNTS + width,
+        symbols(plan),
+    ) {
         return Planned::Refused(Refusal::NotASymbol);
     }
     Planned::Made(plan)
 }
 
-// Word number k of `count`, and 0 past them.
-fn symbol_at(bytes: &[u8], from: usize, count: usize, k: usize) -> Symbol
-    requires { ⌜ from + 2 * count ≤ length (now bytes) ⌝ }
-    ensures { λ r. ⌜ r ≡ at (wordsOf count (now (bytes .entry)) from) k ⌝ }
+// Number k of `count`, and 0 past them.
+fn symbol_at(width: usize, bytes: &[u8], from: usize, count: usize, k: usize) -> Symbol
+    requires { ⌜ (width ≤ 4) × (from + width * count ≤ length (now bytes)) ⌝ }
+    ensures { λ r. ⌜ r ≡ at (numbersAt width count (now (bytes .entry)) from) k ⌝ }
 {
     if k < count {
-        return word_at(bytes, from + 2 * k);
+        return number_at(width, bytes, from + width * k);
     }
     0
 }
 
-// Fills a table with `count` words, and 0 past them.
-fn fill(bytes: &[u8], from: usize, count: usize, table: &mut [Symbol])
-    requires { ⌜ (from + 2 * count ≤ length (now bytes)) × (count ≤ 256) × (length (now table) ≡ 256) ⌝ }
-    ensures { λ _. ⌜ now (table .exit) ≡ padded (wordsOf count (now (bytes .entry)) from) ⌝ }
+// Fills a table with `count` numbers, and 0 past them.
+fn fill(width: usize, bytes: &[u8], from: usize, count: usize, table: &mut [Symbol])
+    requires { ⌜ (width ≤ 4) × (from + width * count ≤ length (now bytes)) × (count ≤ 256) × (length (now table) ≡ 256) ⌝ }
+    ensures { λ _. ⌜ now (table .exit) ≡ padded (numbersAt width count (now (bytes .entry)) from) ⌝ }
 {
     let mut k = 0;
     while k < table.len() {
-        table[k] = symbol_at(bytes, from, count, k);
+        table[k] = symbol_at(width, bytes, from, count, k);
         k += 1;
     }
 }
@@ -183,56 +255,77 @@ pub fn read_record(bytes: &[u8], table: &mut [Symbol]) -> Planned
 {
     let planned = check_record(bytes, table);
     if let Planned::Made(plan) = planned {
-        fill(bytes, start_in(bytes) + HEAD, symbols(plan), table);
+        let width = width_in(bytes);
+        fill(
+            width,
+            bytes,
+            start_in(bytes) + COUNTS + width,
+            symbols(plan),
+            table,
+        );
     }
     planned
 }
 
+// A number in as many bytes as are lent, low first.
+fn write_number(n: Symbol, out: &mut [u8])
+    requires { ⌜ n < 256 ^ length (now out) ⌝ }
+    ensures { λ _. ⌜ now (out .exit) ≡ bytesOf (length (now (out .entry))) n ⌝ }
+{
+    let mut left = n;
+    let mut k = 0;
+    while k < out.len() {
+        out[k] = (left % BYTE) as u8;
+        left /= BYTE;
+        k += 1;
+    }
+}
+
+// The counts, and q in the bytes after them.
 fn write_head(plan: Plan, out: &mut [u8])
-    requires { ⌜ (plan .clusters < 256) × (plan .size < 256) × (plan .limit < 256) × (plan .rate < 256) × (length (now out) ≡ 6) ⌝ }
-    ensures { λ _. ⌜ now (out .exit) ≡ plan .clusters ∷ plan .size ∷ plan .limit ∷ plan .rate ∷ bytesOf (plan .q) ⌝ }
+    requires { ⌜ (inBounds plan ≡ true) × (4 ≤ length (now out)) × (plan .q < 256 ^ (length (now out) - 4)) ⌝ }
+    ensures { λ _. ⌜ now (out .exit) ≡ plan .clusters ∷ plan .size ∷ plan .limit ∷ plan .rate ∷ bytesOf (length (now (out .entry)) - 4) (plan .q) ⌝ }
 {
     out[0] = plan.clusters as u8;
     out[1] = plan.size as u8;
     out[2] = plan.limit as u8;
     out[3] = plan.rate as u8;
-    out[4] = (plan.q % 256) as u8;
-    out[5] = (plan.q / 256) as u8;
+    write_number(plan.q, &mut out[COUNTS..]);
 }
 
-fn write_symbols(table: &[Symbol], out: &mut [u8])
-    requires { ⌜ length (now out) ≡ 2 * length (now table) ⌝ }
-    ensures { λ _. ⌜ now (out .exit) ≡ bytesOfAll (now (table .entry)) ⌝ }
+fn write_symbols(width: usize, table: &[Symbol], out: &mut [u8])
+    requires { ⌜ ((k : ℕ) → at (now table) k < 256 ^ width) × (length (now out) ≡ width * length (now table)) ⌝ }
+    ensures { λ _. ⌜ now (out .exit) ≡ bytesOfAll width (now (table .entry)) ⌝ }
 {
     let mut k = 0;
     while k < table.len() {
-        let x = table[k];
-        out[2 * k] = (x % 256) as u8;
-        out[2 * k + 1] = (x / 256) as u8;
+        let i = width * k;
+        write_number(table[k], &mut out[i..i + width]);
         k += 1;
     }
 }
 
-fn write_trailer(distance: usize, out: &mut [u8])
+fn write_trailer(distance: usize, mark: u8, out: &mut [u8])
     requires { ⌜ (distance < 65536) × (length (now out) ≡ 4) ⌝ }
-    ensures { λ _. ⌜ now (out .exit) ≡ bytesOf distance ++ (0x4b ∷ 0x50 ∷ []) ⌝ }
+    ensures { λ _. ⌜ now (out .exit) ≡ bytesOf 2 distance ++ (0x4b ∷ mark ∷ []) ⌝ }
 {
-    out[0] = (distance % 256) as u8;
-    out[1] = (distance / 256) as u8;
+    write_number(distance as Symbol, &mut out[..DISTANCE]);
     out[2] = FIRST_MARK;
-    out[3] = LAST_MARK;
+    out[3] = mark;
 }
 
 // The record's three parts.
 fn write_parts(plan: Plan, table: &[Symbol], out: &mut [u8])
-    requires { ⌜ (inBounds plan ≡ true) × (length (now table) ≡ usersOf plan * plan .rate) × (length (now out) ≡ recordSize plan) ⌝ }
+    requires { ⌜ accepted ≡ writeCode plan (now table) (now out) ⌝ }
     ensures { λ _. ⌜ now (out .exit) ≡ recordOf plan (now (table .entry)) ⌝ }
 {
+    let width = width_of(plan.q);
     let size = out.len();
+    let head = COUNTS + width;
     let end = size - TRAILER;
-    write_head(plan, &mut out[..HEAD]);
-    write_symbols(table, &mut out[HEAD..end]);
-    write_trailer(size, &mut out[end..]);
+    write_head(plan, &mut out[..head]);
+    write_symbols(width, table, &mut out[head..end]);
+    write_trailer(size, mark_of(width), &mut out[end..]);
 }
 
 // The vet's checks of a plan and a table, then that of the buffer.
@@ -243,13 +336,13 @@ fn check_writing(plan: Plan, table: &[Symbol], out: &[u8]) -> Verdict
     if !verdict.is_accepted() {
         return verdict;
     }
-    if out.len() != record_size(plan) {
+    if out.len() != size_with(width_of(plan.q), plan) {
         return Verdict::Refused(Refusal::WrongLength);
     }
     verdict
 }
 
-// Writes the record of a plan and its key table.
+// Writes the record of a plan and its key table: the wide one where q asks for it.
 pub fn write_record(plan: Plan, table: &[Symbol], out: &mut [u8]) -> Verdict
     ensures code { λ r. ⌜ verdictCode r ≡ writeCode plan (now (table .entry)) (now (out .entry)) ⌝ }
     ensures out { λ _. ⌜ now (out .exit) ≡ bytesAfter plan (now (table .entry)) (now (out .entry)) ⌝ }

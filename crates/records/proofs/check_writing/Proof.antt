@@ -1,8 +1,10 @@
 use borrow.Author.Needs.{needs}
 use borrow.Author.Tests.{eq-eqb, ne-eqb, not-false}
-use mathlib.Core.Path.{_≡_, sym, _∙_}
+use mathlib.Core.Path.{_≡_, sym, ap, _∙_}
 use mathlib.Core.Bool.{Bool, not}
 use mathlib.Core.List.{List, [], _∷_}
+use Prim.Native.Nat.{ℕ}
+use native.Mathlib.Omega.{arith}
 use lib.Dec.{eqb}
 use lib.ListN.{length}
 use Rattle.refusals.specs.declared.Code.{Code}
@@ -10,8 +12,9 @@ use Rattle.refusals.specs.Codes.{code, accepted, firstOf}
 use Rattle.refusals.proofs.Answers.{passes, first-answers}
 use Rattle.refusals.proofs.Orders.{rest-decides}
 use Rattle.plans.specs.Plans.{tableChecks}
-use Rattle.records.specs.Records.{recordSize, writeCode}
+use Rattle.records.specs.Records.{sizeWith, recordSize, writeCode}
 use Rattle.plans.proofs.TableLaws.{table-passed}
+use Rattle.records.proofs.Widths.{width-few}
 use Rattle.records.proofs.check_writing.Statement.{statement}
 use Rattle.records.proofs.check_writing.Tie as tie
 
@@ -34,20 +37,28 @@ decides : (c : tie.Else1) → (let s = c .before .before .before .before .before
     (s .args .out .now))
 decides c = let s = c .before .before .before .before .before in rest-decides (tableChecks (s .args .plan) (s .args .table .now)) (room s) tt (told c)
 
-record-size-requires : tie.Need-record-size-requires
-record-size-requires c κs = let a = c .before .before .before .before .before .args in table-passed (a .plan) (a .table .now) [] tt (told c) .bounds
+size-with-requires : tie.Need-size-with-requires
+size-with-requires c κs =
+    let a = c .before .before .before .before .before .before .args in (
+      table-passed (a .plan) (a .table .now) [] tt (told (c .before)) .bounds,
+      omega (arith, c .width-of .ensures, width-few (a .plan .q)),
+    )
+
+size-is : (c : tie.After-size-with) → c .size-with .result ≡ recordSize (c .before .before .before .before .before .before .before .args .plan)
+size-is c =
+    c .size-with .ensures ∙ ap (λ (w : ℕ). sizeWith w (c .before .before .before .before .before .before .before .args .plan)) (c .before .width-of .ensures)
 
 returns-2 : tie.Need-returns-2
 returns-2 c =
-    let s = c .before .before .before .before .before .before .before in
-    let e : code 4 ≡ firstOf (room s) = simp (ne-eqb _ _ (λ e. c .if2 .taken (e ∙ sym (c .before .record-size .ensures)))) in
-    e ∙ decides (c .before .before)
+    let s = c .before .before .before .before .before .before .before .before in
+    let e : code 4 ≡ firstOf (room s) = simp (ne-eqb _ _ (λ e. c .if2 .taken (e ∙ sym (size-is (c .before))))) in
+    e ∙ decides (c .before .before .before)
 
 returns-3 : tie.Need-returns-3
 returns-3 c =
-    let s = c .before .before .before .before .before .before .before in
-    let e : accepted ≡ firstOf (room s) = simp (eq-eqb _ _ (c .if2 .left ∙ c .before .record-size .ensures)) in
-    c .before .before .before .before .check-plan .ensures ∙ sym (told (c .before .before)) ∙ e ∙ decides (c .before .before)
+    let s = c .before .before .before .before .before .before .before .before in
+    let e : accepted ≡ firstOf (room s) = simp (eq-eqb _ _ (c .if2 .left ∙ size-is (c .before))) in
+    c .before .before .before .before .before .check-plan .ensures ∙ sym (told (c .before .before .before)) ∙ e ∙ decides (c .before .before .before)
 
 pub check-writing-spec : {M : Type 1} → statement M
 check-writing-spec =
@@ -56,6 +67,7 @@ check-writing-spec =
     (search needs)
     (search needs)
     returns
-    record-size-requires
+    (search needs)
+    size-with-requires
     returns-2
     returns-3)

@@ -1,17 +1,19 @@
 use borrow.Author.Needs.{needs}
-use mathlib.Core.Path.{ap, _∙_}
+use mathlib.Core.Path.{ap, ap₂, _∙_}
 use mathlib.Core.List.{List}
 use Prim.Native.Nat.{ℕ, _+_, _≤_}
 use native.Mathlib.Omega.{arith}
 use lib.ListN.{length}
 use Rattle.lists.specs.Lists.{at}
-use Rattle.records.specs.Records.{word}
+use Rattle.records.specs.Bytes.{numberAt}
+use Rattle.records.specs.Records.{widthIn}
 use Rattle.records.proofs.Trailers.{start-room}
+use Rattle.records.proofs.Widths.{told-few}
 use Rattle.records.proofs.plan_in.Statement.{statement}
 use Rattle.records.proofs.plan_in.Tie as tie
 
--- ten bytes from the start on
-room : (c : tie.After-start-in) → c .start-in .result + 10 ≤ length (c .before .before .args .bytes .now)
+-- the counts, q and the trailer lie from the start on
+room : (c : tie.After-start-in) → (let B : List ℕ = c .before .before .args .bytes .now in c .start-in .result + (8 + widthIn B) ≤ length B)
 room c = omega (arith, c .start-in .ensures, start-room (c .before .before .args .bytes .now) (c .before .before .pre))
 
 shared-slice-read-t4 : tie.Need-shared-slice-read-t4
@@ -38,19 +40,24 @@ shared-slice-read-t16 c = omega (arith, room (c .before .before .before .before)
 cast-t17 : tie.Need-cast-t17
 cast-t17 c = omega (arith, c .shared-slice-known5 .given (c .before .before .before .before .start-in .result + 3))
 
-word-at-requires : tie.Need-word-at-requires
-word-at-requires c κs = omega (arith, room (c .before .before .before .before))
+width-in-requires : tie.Need-width-in-requires
+width-in-requires c κs = omega (arith, room (c .before .before .before .before))
+
+number-at-requires : tie.Need-number-at-requires
+number-at-requires c κs =
+    let B : List ℕ = c .before .before .before .before .before .before .before .args .bytes .now in
+    omega (arith, c .width-in .ensures, told-few B, room (c .before .before .before .before .before))
 
 returns : tie.Need-returns
 returns c =
-    let s = c .before .before .before .before .before in
+    let s = c .before .before .before .before .before .before in
     let B : List ℕ = s .before .before .args .bytes .now in
     λ i. record {
       clusters = ap (at B) (s .start-in .ensures) i;
       size = ap (λ (n : ℕ). at B (n + 1)) (s .start-in .ensures) i;
       limit = ap (λ (n : ℕ). at B (n + 2)) (s .start-in .ensures) i;
       rate = ap (λ (n : ℕ). at B (n + 3)) (s .start-in .ensures) i;
-      q = (c .word-at .ensures ∙ ap (λ (n : ℕ). word B (n + 4)) (s .start-in .ensures)) i;
+      q = (c .number-at .ensures ∙ ap₂ (λ (w n : ℕ). numberAt w B (n + 4)) (c .before .width-in .ensures) (s .start-in .ensures)) i;
     }
 
 pub plan-in-spec : {M : Type 1} → statement M
@@ -69,6 +76,7 @@ plan-in-spec =
     (search needs)
     shared-slice-read-t16
     cast-t17
+    width-in-requires
     (search needs)
-    word-at-requires
+    number-at-requires
     returns)

@@ -1,61 +1,68 @@
 use mathlib.Core.Path.{_≡_, refl, sym, ap, _∙_}
 use mathlib.Core.Bool.{true}
 use mathlib.Core.List.{List}
-use Prim.Native.Nat.{ℕ}
+use Prim.Native.Nat.{ℕ, _≤_}
 use native.Mathlib.Omega.{arith}
 use Rattle.refusals.specs.Codes.{accepted}
 use Rattle.refusals.proofs.CodeLaws.{refused-keeps, accepted-takes}
 use Rattle.plans.specs.Plans.{plannedCode, plannedPlan, inBounds, noPlan}
 use Rattle.records.specs.Records.{planRead, tableRead, readCode, padded}
-use Rattle.records.proofs.RecordChecks.{Readable, readable, read-words, words-inside}
+use Rattle.records.proofs.RecordChecks.{Readable, readable, read-numbers, numbers-inside}
 use Rattle.records.proofs.PlanSizes.{bounded}
+use Rattle.records.proofs.Trailers.{trailer-of}
+use Rattle.records.proofs.Widths.{told-few}
 use Rattle.records.proofs.read_record.Statement.{statement}
 use Rattle.records.proofs.read_record.Tie as tie
 
+-- where the function began
+abbrev begun : tie.After-planned → tie.Start
+begun c = c .before .before .before .before .before .before
+
+abbrev buffer : tie.After-planned → List ℕ
+buffer c = begun c .args .bytes .now
+
 -- the checks accepted
-told : (c : tie.After-planned) → (let a = c .before .before .before .before .before .before .args in accepted ≡ readCode (a .bytes .now) (a .table .now))
+told : (c : tie.After-planned) → accepted ≡ readCode (buffer c) (begun c .args .table .now)
 told c = sym (ap plannedCode (c .planned .given .1)) ∙ c .before .before .check-record .ensures .0
 
-passed : (c : tie.After-planned) → (let a = c .before .before .before .before .before .before .args in Readable (a .bytes .now) (a .table .now))
-passed c = let a = c .before .before .before .before .before .before .args in readable (a .bytes .now) (a .table .now) (told c)
+passed : (c : tie.After-planned) → Readable (buffer c) (begun c .args .table .now)
+passed c = readable (buffer c) (begun c .args .table .now) (told c)
 
-plan-is : (c : tie.After-planned) → c .planned .given .0 .0 ≡ planRead (c .before .before .before .before .before .before .args .bytes .now)
+plan-is : (c : tie.After-planned) → c .planned .given .0 .0 ≡ planRead (buffer c)
 plan-is c =
-    let a = c .before .before .before .before .before .before .args in
     sym (ap plannedPlan (c .planned .given .1)) ∙ c .before .before .check-record .ensures .1
-    ∙ accepted-takes (readCode (a .bytes .now) (a .table .now)) (planRead (a .bytes .now)) noPlan (told c)
+    ∙ accepted-takes (readCode (buffer c) (begun c .args .table .now)) (planRead (buffer c)) noPlan (told c)
 
 in-range : (c : tie.After-planned) → inBounds (c .planned .given .0 .0) ≡ true
 in-range c = ap inBounds (plan-is c) ∙ passed c .bounds
 
-start-in-requires : tie.Need-start-in-requires
-start-in-requires c κs = passed (c .before) .trailer
+width-in-requires : tie.Need-width-in-requires
+width-in-requires c κs = omega (arith, trailer-of (buffer (c .before)) (passed (c .before) .trailer) .four)
 
-symbols-requires : tie.Need-symbols-requires
-symbols-requires c κs = in-range (c .before .before)
+few : (c : tie.After-width-in) → c .width-in .result ≤ 4
+few c = omega (arith, c .width-in .ensures, told-few (buffer (c .before .before)))
 
 fill-requires : tie.Need-fill-requires
 fill-requires c κs =
-    let p = c .before .before .before .before in
-    let B : List ℕ = p .before .before .before .before .before .before .args .bytes .now in (
-      words-inside B (p .planned .given .0 .0) _ _ (plan-is p) (c .before .symbols .ensures) (c .before .before .start-in .ensures) (passed p .trailer)
-          (passed p .size),
+    let p = c .before .before .before .before .before in (
+      few (c .before .before .before),
+      numbers-inside (buffer p) (p .planned .given .0 .0) _ _ _ (plan-is p) (c .before .before .before .width-in .ensures) (c .before .symbols .ensures)
+          (c .before .before .start-in .ensures) (passed p .trailer) (passed p .size),
       omega (arith, c .before .symbols .ensures, bounded (p .planned .given .0 .0) (in-range p) .symbols),
       passed p .lent,
     )
 
 returns : tie.Need-returns
 returns c =
-    let p = c .before .before .before .before .before .before .before in
-    let a = p .before .before .before .before .before .before .args in
-    let B : List ℕ = a .bytes .now in
-    let out : List ℕ = a .table .now in
-    let words = read-words B (p .planned .given .0 .0) _ _ (plan-is p) (c .before .before .before .before .symbols .ensures)
-    (c .before .before .before .before .before .start-in .ensures) in (
+    let p = c .before .before .before .before .before .before .before .before in
+    let B : List ℕ = buffer p in
+    let out : List ℕ = begun p .args .table .now in
+    let numbers = read-numbers B (p .planned .given .0 .0) _ _ _ (plan-is p) (c .before .before .before .before .before .before .width-in .ensures)
+    (c .before .before .before .before .symbols .ensures) (c .before .before .before .before .before .start-in .ensures) in (
       told p,
       (
         plan-is p ∙ sym (accepted-takes (readCode B out) (planRead B) noPlan (told p)),
-        c .before .before .fill .ensures ∙ ap padded words ∙ sym (accepted-takes (readCode B out) (padded (tableRead B)) out (told p)),
+        c .before .before .fill .ensures ∙ ap padded numbers ∙ sym (accepted-takes (readCode B out) (padded (tableRead B)) out (told p)),
       ),
     )
 
@@ -74,9 +81,11 @@ read-record-spec =
     (tie.spec
     (λ c κs. tt)
     (λ c. c .match .keys1)
-    start-in-requires
+    width-in-requires
+    (λ c κs. passed (c .before .before) .trailer)
     (λ c. omega arith)
-    symbols-requires
+    (λ c. omega (arith, few (c .before)))
+    (λ c κs. in-range (c .before .before .before))
     fill-requires
     (λ c. c .match .keys2)
     (λ c. c .before .table .given)

@@ -4,7 +4,6 @@ use Rattle.refusals.specs.declared.Code.{Code}
 use Rattle.refusals.specs.Codes.{accepted}
 use Rattle.refusals.proofs.Answers.{passes, takes, keeps}
 use Rattle.records.specs.Records.{writeCode}
-use Rattle.records.proofs.RecordChecks.{writable}
 use Rattle.records.proofs.write_record.Statement.{statement}
 use Rattle.records.proofs.write_record.Tie as tie
 
@@ -14,12 +13,6 @@ code s = writeCode (s .args .plan) (s .args .table .now) (s .args .out .now)
 
 told : (c : tie.Then1) → accepted ≡ code (c .before .before .before .before .before .before)
 told c = passes (c .before .before .check-writing .result) (c .before .before .check-writing .ensures) (c .before .is-accepted .ensures) (c .if1 .taken)
-
-write-parts-requires : tie.Need-write-parts-requires
-write-parts-requires c κs =
-    let a = c .before .before .before .before .before .before .before .args in
-    let p = writable (a .plan) (a .table .now) (a .out .now) (told (c .before)) in
-    (p .bounds, p .table, p .size)
 
 returns : tie.Need-returns
 returns c =
@@ -43,7 +36,7 @@ write-record-spec =
     (tie.spec
     (search needs)
     (search needs)
-    write-parts-requires
+    (λ c κs. told (c .before))
     (search needs)
     returns
     (search needs)

@@ -1,55 +1,106 @@
--- The invariant: up to byte 2 k the buffer is what it is to be.
-use mathlib.Core.Path.{_≡_, refl, sym, _∙_, subst}
+-- The invariant: up to number k the buffer is what it is to be.
+use mathlib.Core.Path.{_≡_, refl, sym, ap, _∙_}
 use mathlib.Core.List.{List}
-use Prim.Native.Nat.{ℕ, _+_, _-_, _*_, _/_, _%_, _<_}
+use Prim.Native.Nat.{ℕ, _+_, _-_, _*_, _^_, _≤_}
+use native.Mathlib.Nat.{mul-le-mul-left}
 use native.Mathlib.Omega.{arith}
-use lib.ListN.{length, take, set, length-set}
+use lib.ListN.{length, take, drop}
 use Rattle.lists.specs.Lists.{at}
-use Rattle.records.specs.Records.{bytesOfAll}
-use Rattle.records.proofs.Bytes.{length-bytes, low-at, high-at}
-use Rattle.records.proofs.Fills.{fill-next, fill-done}
+use Rattle.lists.proofs.Fronts.{Front, row-fits, length-part, front-none, front-part, front-whole}
+use Rattle.records.specs.Bytes.{bytesOf, bytesOfAll}
+use Rattle.records.proofs.Bytes.{length-all, all-at}
 use Rattle.records.proofs.write_symbols.Statement.{statement}
 use Rattle.records.proofs.write_symbols.Tie as tie
 
 abbrev Inv-loop : tie.InvT-loop
-Inv-loop table out₀ k₀ out k = (length out ≡ 2 * length table) × (take (2 * k) out ≡ take (2 * k) (bytesOfAll table))
+Inv-loop width table out₀ k₀ out k = Front out₀ (bytesOfAll width table) out (width * k)
 
 abbrev μ-loop : tie.MeasureT-loop
-μ-loop table out₀ k₀ out k = length table - k
+μ-loop width table out₀ k₀ out k = length table - k
 
 loop-holds : tie.Need-loop-holds Inv-loop μ-loop
-loop-holds c = (c .pre, refl)
+loop-holds c =
+    let a = c .before .before .args in
+    front-none (a .out .now) (bytesOfAll (a .width) (a .table .now)) (a .width * 0) (omega arith)
+    (length-all (a .width) (a .table .now) ∙ sym (c .before .before .pre .1))
 
-cast-out-2 : tie.Need-cast-out-2 Inv-loop μ-loop
-cast-out-2 c = omega (arith, c .shared-slice-known .given (c .before .before .loop .k))
+-- number k has its bytes in the buffer
+room : (c : tie.In-loop Inv-loop μ-loop) → (let w : ℕ = c .before .before .before .before .args .width in
+    w * c .before .loop .k + w ≤ length (c .before .loop .out))
+room c =
+    let a = c .before .before .before .before .args in
+    omega (
+      arith,
+      c .before .loop .inv .whole,
+      c .before .before .before .before .pre .1,
+      row-fits (length (a .table .now)) (a .width) (c .before .loop .k) (length (a .table .now) * a .width) (c .loop-test .taken) refl,
+    )
 
-slice-write-out-2 : tie.Need-slice-write-out-2 Inv-loop μ-loop
-slice-write-out-2 c = simp length-set (omega arith)
+lent : (w k : ℕ) (out : List ℕ) → w * k + w ≤ length out → length (take (w * k + w - w * k) (drop (w * k) out)) ≡ w
+lent w k out h = length-part (w * k + w - w * k) (w * k) out (omega arith) ∙ omega arith
+
+mul-i : tie.Need-mul-i Inv-loop μ-loop
+mul-i c = omega (arith, room c)
+
+mul-write-number : tie.Need-mul-write-number Inv-loop μ-loop
+mul-write-number c = omega arith
+
+shared-slice-read-write-number : tie.Need-shared-slice-read-write-number Inv-loop μ-loop
+shared-slice-read-write-number c = omega arith
+
+add-write-number : tie.Need-add-write-number Inv-loop μ-loop
+add-write-number c = omega (arith, room (c .before))
+
+sub-write-number : tie.Need-sub-write-number Inv-loop μ-loop
+sub-write-number c = omega arith
+
+part-write-number-start : tie.Need-part-write-number-start Inv-loop μ-loop
+part-write-number-start c = omega arith
+
+part-write-number-end : tie.Need-part-write-number-end Inv-loop μ-loop
+part-write-number-end c = omega (arith, room (c .before))
+
+write-number-requires : tie.Need-write-number-requires Inv-loop μ-loop
+write-number-requires c κs =
+    let s = c .before .before .before .loop in
+    let t = c .before .before .before .before .before .before in
+    omega (arith, t .pre .0 (s .k), ap (λ (n : ℕ). 256 ^ n) (lent (t .args .width) (s .k) (s .out) (room (c .before .before))))
+
+add-k : tie.Need-add-k Inv-loop μ-loop
+add-k c = omega (arith, c .before .before .before .before .before .loop-test .taken)
+
+loop-less : tie.Need-loop-less Inv-loop μ-loop
+loop-less c = omega (arith, c .before .before .before .before .before .loop-test .taken)
 
 loop-again : tie.Need-loop-again Inv-loop μ-loop
 loop-again c =
-    let s = c .before .before .loop in
-    let K : List ℕ = c .before .before .before .args .table .now in
-    let low : ℕ = at K (s .k) % 256 in
-    let high : ℕ = at K (s .k) / 256 in
-    let one : List ℕ = set (s .out) (2 * s .k) low in
-    let h : s .k < length K = c .before .loop-test .taken in
-    let l : length one ≡ 2 * length K = length-set (s .out) (2 * s .k) low ∙ s .inv .0 in
-    let first : take (2 * s .k + 1) one ≡ take (2 * s .k + 1) (bytesOfAll K) =
-    fill-next (s .out) (bytesOfAll K) (2 * s .k) low (omega (arith, s .inv .0)) (omega (arith, length-bytes K)) (sym (low-at K (s .k) h)) (s .inv .1) in
-    let both : take (2 * s .k + 1 + 1) (set one (2 * s .k + 1) high) ≡ take (2 * s .k + 1 + 1) (bytesOfAll K) =
-    fill-next one (bytesOfAll K) (2 * s .k + 1) high (omega arith) (omega (arith, length-bytes K)) (sym (high-at K (s .k) h)) first in
-    let e : 2 * s .k + 1 + 1 ≡ 2 * (s .k + 1) = omega arith in
-    (length-set one (2 * s .k + 1) high ∙ l, subst (λ (n : ℕ). take n (set one (2 * s .k + 1) high) ≡ take n (bytesOfAll K)) e both)
+    let s = c .before .before .before .before .before .before .loop in
+    let a = c .before .before .before .before .before .before .before .before .before .args in
+    let w : ℕ = a .width in
+    let K : List ℕ = a .table .now in
+    let n : ℕ = w * s .k + w - w * s .k in
+    let same : w ≡ n = omega arith in
+    let inside : w * s .k + w ≤ length (s .out) = room (c .before .before .before .before .before) in
+    front-part _ _ (s .out) (w * s .k) n (w * (s .k + 1)) (c .before .before .write-number .last .1 .0) (omega arith) (s .inv) (omega arith)
+    (c .before .before .write-number .ensures
+    ∙ ap (λ (m : ℕ). bytesOf m (at K (s .k))) (lent w (s .k) (s .out) inside)
+    ∙ sym (all-at w K (s .k) (c .before .before .before .before .before .loop-test .taken))
+    ∙ ap (λ (m : ℕ). take m (drop (w * s .k) (bytesOfAll w K))) same)
 
 same-length : tie.Need-same-length Inv-loop μ-loop
-same-length c = c .before .loop .inv .0 ∙ sym (c .before .before .pre)
+same-length c = c .before .loop .inv .whole
 
 returns : tie.Need-returns Inv-loop μ-loop
 returns c =
     let s = c .before .loop in
-    let K : List ℕ = c .before .before .args .table .now in
-    fill-done (s .out) (bytesOfAll K) (2 * s .k) (omega (arith, s .inv .0, c .loop-test .left)) (omega (arith, length-bytes K, c .loop-test .left)) (s .inv .1)
+    let t = c .before .before .before .before in
+    front-whole _ _ _ _ (s .inv)
+    (omega (
+      arith,
+      s .inv .whole,
+      t .pre .1,
+      mul-le-mul-left {m = length (t .args .table .now)} {n = s .k} (t .args .width) (c .loop-test .left),
+    ))
 
 pub write-symbols-spec : {M : Type 1} → statement M
 write-symbols-spec =
@@ -58,17 +109,16 @@ write-symbols-spec =
     Inv-loop
     μ-loop
     loop-holds
-    (λ c. omega arith)
-    (λ c. c .before .loop-test .taken)
-    (λ c. omega arith)
-    (λ c. omega arith)
-    (λ c. omega arith)
-    cast-out-2
-    (λ c. omega arith)
-    (λ c. omega arith)
-    slice-write-out-2
-    (λ c. omega arith)
-    (λ c. omega arith)
+    mul-i
+    mul-write-number
+    shared-slice-read-write-number
+    add-write-number
+    sub-write-number
+    part-write-number-start
+    part-write-number-end
+    write-number-requires
+    add-k
+    loop-less
     loop-again
     same-length
     returns)
