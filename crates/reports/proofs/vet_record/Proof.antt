@@ -14,11 +14,11 @@ use Rattle.lists.specs.Lists.{zeros}
 use Rattle.plans.specs.declared.Plan.{Plan}
 use Rattle.plans.specs.Plans.{usersOf, inBounds, noPlan, plannedCode, plannedPlan}
 use Rattle.vetting.specs.Vet.{vetChecks, vetCode}
-use Rattle.records.specs.Records.{start, planRead, tableRead, readChecks, readCode, padded}
+use Rattle.records.specs.Records.{widthIn, start, planRead, tableRead, readChecks, readCode, padded}
 use Rattle.reports.specs.Program.{programCode}
 use Rattle.refusals.proofs.Orders.{first-refuses, rest-decides}
 use Rattle.records.proofs.RecordChecks.{Readable, readable}
-use Rattle.records.proofs.Bytes.{length-words}
+use Rattle.records.proofs.Bytes.{length-numbers}
 use Rattle.plans.proofs.PlanBounds.{Bounds, bounds-known, few-numbers}
 use Rattle.reports.proofs.vet_record.Statement.{statement}
 use Rattle.reports.proofs.vet_record.Tie as tie
@@ -70,7 +70,7 @@ module _ (c : tie.After-plan) where
   whole : n ≡ length (tableRead B)
   whole =
       ap (λ (X : Plan). usersOf X * X .rate) plan-is
-      ∙ sym (length-words (usersOf (planRead B) * planRead B .rate) B (start B + 6))
+      ∙ sym (length-numbers (widthIn B) (usersOf (planRead B) * planRead B .rate) B (start B + 4 + widthIn B))
 
   part-is : take n filled ≡ tableRead B
   part-is = ap₂ (λ (k : ℕ) (l : List ℕ). take k l) whole table-is ∙ take-append-seam (tableRead B) (zeros (256 - length (tableRead B)))
