@@ -330,14 +330,14 @@ pub extern "C" fn kortyghai_vet_record(bytes: &[u8]) -> u64
 const COUNTS: usize = 5;
 
 // U, V, T, R and q.
-fn write_counts(plan: Plan, counts: &mut [u16])
+fn write_counts(plan: Plan, counts: &mut [Symbol])
     requires { ⌜ (plan .clusters < 65536) × (plan .size < 65536) × (plan .limit < 65536) × (plan .rate < 65536) × (length (now counts) ≡ 5) ⌝ }
     ensures { λ _. ⌜ now (counts .exit) ≡ countsOf plan ⌝ }
 {
-    counts[0] = plan.clusters as u16;
-    counts[1] = plan.size as u16;
-    counts[2] = plan.limit as u16;
-    counts[3] = plan.rate as u16;
+    counts[0] = plan.clusters as Symbol;
+    counts[1] = plan.size as Symbol;
+    counts[2] = plan.limit as Symbol;
+    counts[3] = plan.rate as Symbol;
     counts[4] = plan.q;
 }
 
@@ -346,7 +346,7 @@ fn write_counts(plan: Plan, counts: &mut [u16])
 pub extern "C" fn kortyghai_read_record(
     bytes: &[u8],
     table: &mut [Symbol],
-    counts: &mut [u16],
+    counts: &mut [Symbol],
 ) -> u64
     ensures code { λ r. ⌜ r ≡ packed (entryCode (now (bytes .entry)) (now (table .entry)) (now (counts .entry))) ⌝ }
     ensures table { λ _. ⌜ now (table .exit) ≡ entryTable (now (bytes .entry)) (now (table .entry)) (now (counts .entry)) ⌝ }
