@@ -1,5 +1,5 @@
--- Primes of 32 bits (document 02, Q-7): the two kinds of record. That the plan's largest q is 4,294,967,291 stands in the promise of the plan's constructor, and
--- that a plan has one record, of whichever kind, in `WrittenIsRead` and `OneRecord` (Demands), which speak of both kinds.
+-- Primes of 32 bits (document 02, Q-7): the two kinds of record. That the plan's largest q is 4,294,967,291 stands in the promise of the plan's constructor,
+-- and that a plan has one record, of whichever kind, in `WrittenIsRead` and `OneRecord` (Demands), which speak of both kinds.
 use Prim.Native.Nat.{ℕ, _+_, _-_, _*_, _≤_, _<_}
 use mathlib.Core.Path.{_≡_}
 use mathlib.Core.Logic.{_≢_}

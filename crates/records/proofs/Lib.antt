@@ -1,8 +1,8 @@
 pub mod RecordLaws
 pub mod RecordChecks
 pub mod Bytes
-mod Widths
+pub mod Trailers
+pub mod Widths
 mod PlanSizes
 mod Padded
-mod Trailers
 mod RecordExamples
