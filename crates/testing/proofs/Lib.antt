@@ -1,1 +1,2 @@
 mod Loops
+mod Symbols

@@ -14,7 +14,7 @@ residueOf n a = residue n a
 unfoldable pub quotientOf : ℕ → ℕ → ℕ
 quotientOf n a = cond (eqb n 0) 0 (a / n)
 
--- the lower half of a number of 32 bits, and the product of two
+-- the lower 16 bits of a number, and the product of two such
 unfoldable pub low : ℕ → ℕ
 low a = a % 65536
 
@@ -24,25 +24,29 @@ lowProduct a b = low a * low b
 unfoldable pub mulAddOf : ℕ → ℕ → ℕ → ℕ
 mulAddOf a m b = a % 1099511627776 + lowProduct m b
 
--- repeated multiplication modulo q
+-- the lower 32 bits of a number, which make a symbol; the product of two symbols modulo q, and repeated multiplication
+unfoldable pub symbolOf : ℕ → ℕ
+symbolOf a = a % 4294967296
+
+unfoldable pub productModOf : ℕ → ℕ → ℕ → ℕ
+productModOf q a b = residueOf q (symbolOf a * symbolOf b)
+
 unfoldable pub powerOf : ℕ → ℕ → ℕ → ℕ
 powerOf q a zero = residueOf q 1
-powerOf q a (suc n) = residueOf q (lowProduct (powerOf q a n) a)
+powerOf q a (suc n) = productModOf q (powerOf q a n) a
 
 -- how many numbers below n have the property
 unfoldable pub howMany : ℕ → (ℕ → Bool) → ℕ
 howMany zero f = 0
 howMany (suc n) f = howMany n f + cond (f n) 1 0
 
-unfoldable pub divisorsOf : ℕ → ℕ
-divisorsOf q = howMany q (λ d. eqb (residueOf (d + 1) q) 0)
-
-unfoldable pub primeOf : ℕ → ℕ
-primeOf n = getD (2 ∷ 3 ∷ 5 ∷ 7 ∷ 257 ∷ 65519 ∷ []) n 65521
-
 -- the smaller of two numbers; a number, or another one where there is a fault; is a none of 1 to n?
 unfoldable pub clipOf : ℕ → ℕ → ℕ
 clipOf n most = cond (ltb most n) most n
+
+-- the primes that are tried; the largest from place 10 on
+unfoldable pub primeOf : ℕ → ℕ
+primeOf n = getD (2 ∷ 3 ∷ 5 ∷ 7 ∷ 257 ∷ 65519 ∷ 65521 ∷ 65537 ∷ 2147483647 ∷ 4294967279 ∷ 4294967291 ∷ []) (clipOf n 10) 0
 
 unfoldable pub overOf : Bool → ℕ → ℕ → ℕ
 overOf fault number otherwise = cond fault number otherwise

@@ -5,7 +5,7 @@ use mathlib.Core.List.{List}
 use lib.Dec.{eqb, leb}
 use lib.ListN.{length, getD, set}
 use Rattle.lists.specs.Search.{allTo}
-use Rattle.testing.specs.Numbers.{residueOf, low, mulAddOf, howMany, drawnOf}
+use Rattle.testing.specs.Numbers.{residueOf, symbolOf, mulAddOf, howMany, stateOf, drawnOf}
 
 -- the number at index i, 0 past the end
 unfoldable pub at : List ℕ → ℕ → ℕ
@@ -26,7 +26,7 @@ overwritten (suc n) f l = replaced (overwritten n f l) n (f n)
 
 -- the numbers of the seed x, below q
 unfoldable pub filled : ℕ → ℕ → List ℕ → List ℕ
-filled q x l = overwritten (length l) (λ i. low (residueOf q (drawnOf x i))) l
+filled q x l = overwritten (length l) (λ i. symbolOf (residueOf q (stateOf x i))) l
 
 unfoldable pub filledBytes : ℕ → List ℕ → List ℕ
 filledBytes x l = overwritten (length l) (λ i. drawnOf x i % 256) l

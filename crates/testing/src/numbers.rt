@@ -1,17 +1,29 @@
 // Numbers drawn from a seed, and arithmetic on usize, which also counts places in tables.
 ghost use mathlib.Core.Path.{_≡_};
 ghost use Prim.Native.Nat.{_*_, _≤_};
-ghost use Rattle.testing.specs.Numbers.{residueOf, quotientOf, low, lowProduct, mulAddOf, powerOf, divisorsOf, primeOf};
+ghost use Rattle.residues.specs.Primes.{isPrime};
+ghost use Rattle.testing.specs.Numbers.{residueOf, quotientOf, low, lowProduct, mulAddOf, symbolOf, productModOf, powerOf, primeOf};
 ghost use Rattle.testing.specs.Numbers.{stepOf, seedOf, drawOf, stateOf, drawnOf, clipOf, overOf, outsideOf};
 use arithmetic::Symbol;
+
+// One more than the largest number of 16 bits, and than the largest of 32.
+const HALF: usize = 65536;
+
+const WHOLE: usize = 4294967296;
+
+// The place of the largest prime, from which on it is taken.
+const LARGEST: usize = 10;
+
+// Places from which to draw a prime: half of them have one of 16 bits.
+pub const PRIMES: usize = 14;
 
 // The next state, of 32 bits: the upper half is mixed into the lower one, and by the product the lower into the upper, so that no two runs of states keep
 // a fixed difference.
 pub fn step(x: usize) -> usize
     ensures { λ r. ⌜ r ≡ stepOf x ⌝ }
 {
-    let n = x % 4294967296;
-    ((n ^ (n / 65536)) % 4294967296 * 73244475 + 1013904223) % 4294967296
+    let n = x % WHOLE;
+    ((n ^ (n / HALF)) % WHOLE * 73244475 + 1013904223) % WHOLE
 }
 
 // The state with which a case begins. The first states of near numbers are near each other, hence the steps.
@@ -25,21 +37,21 @@ pub fn seed(case: usize) -> usize
 pub fn draw(x: usize, n: usize) -> usize
     ensures { λ r. ⌜ r ≡ drawOf x n ⌝ }
 {
-    residue(x / 65536, n)
+    residue(x / HALF, n)
 }
 
 // Number i of 32 bits of the run that a seed stands for. They are mixed and not counted on by a sum, so that no two have a fixed difference.
 pub fn state(x: usize, i: usize) -> usize
     ensures { λ r. ⌜ r ≡ stateOf x i ⌝ }
 {
-    seed(x % 4294967296 + i % 65536 * 65537)
+    seed(x % WHOLE + i % HALF * 65537)
 }
 
 // The same of 16 bits.
 pub fn drawn(x: usize, i: usize) -> usize
     ensures { λ r. ⌜ r ≡ drawnOf x i ⌝ }
 {
-    state(x, i) / 65536 % 65536
+    state(x, i) / HALF % HALF
 }
 
 // What a leaves when divided by n; 0 where n is 0.
@@ -62,12 +74,12 @@ pub fn quotient(a: usize, n: usize) -> usize
     a / n
 }
 
-// The product of two numbers below 65,536. Nothing larger is multiplied in the tests, and by the remainders the product fits for every input.
+// The product of two numbers below 65,536, as counts are. By the remainders it fits for every input.
 pub fn product(a: usize, b: usize) -> usize
     ensures exact { λ r. ⌜ r ≡ lowProduct a b ⌝ }
     ensures fits { λ r. ⌜ r ≤ 65535 * 65535 ⌝ }
 {
-    a % 65536 * (b % 65536)
+    a % HALF * (b % HALF)
 }
 
 // a + m b, for an a below 2^40.
@@ -77,43 +89,61 @@ pub fn mul_add(a: usize, m: usize, b: usize) -> usize
     a % 1099511627776 + product(m, b)
 }
 
+// The product modulo q of two symbols, which are taken to have 32 bits. The library takes one remainder of one product; here the upper half of b is multiplied
+// and reduced first. Whatever q is, all fits: two numbers of 32 bits have a product of 64.
+pub fn product_mod(q: usize, a: usize, b: usize) -> usize
+    ensures exact { λ r. ⌜ r ≡ productModOf q a b ⌝ }
+    ensures fits { λ r. ⌜ r ≤ 4294967295 * 4294967295 ⌝ }
+{
+    let m = a % WHOLE;
+    let n = b % WHOLE;
+    let upper = residue(m * (n / HALF), q);
+    residue(upper * HALF + m * (n % HALF), q)
+}
+
 // a to the power n modulo q, by repeated multiplication.
 pub fn power(q: usize, a: usize, n: usize) -> usize
     ensures { λ r. ⌜ r ≡ powerOf q a n ⌝ }
 {
     let mut p = residue(1, q);
     for k in 0..n {
-        p = residue(product(p, a), q);
+        p = product_mod(q, p, a);
     }
     p
 }
 
-// How many numbers divide q, all up to q tried: a prime has two.
-pub fn divisors(q: usize) -> usize
-    ensures { λ r. ⌜ r ≡ divisorsOf q ⌝ }
+// Whether q is a prime: all numbers from 2 to the root are tried, of a q of 32 bits at most 65,534.
+pub fn is_prime(q: usize) -> bool
+    ensures { λ r. ⌜ r ≡ isPrime q ⌝ }
 {
-    let mut n: usize = 0;
-    for d in 0..q {
-        if residue(q, d + 1) == 0 {
-            n += 1;
+    let mut d: usize = 2;
+    while q / d >= d {
+        if q % d == 0 {
+            return false;
         }
+        d += 1;
     }
-    n
+    q > 1
 }
 
-// Small primes below 4, then large ones; the largest there is from 6 on.
+// Small primes below 4, then larger ones of 16 bits, and from 7 on such of 32.
 pub fn prime(n: usize) -> usize
     ensures { λ r. ⌜ r ≡ primeOf n ⌝ }
 {
-    match n {
-        0 => 2,
-        1 => 3,
-        2 => 5,
-        3 => 7,
-        4 => 257,
-        5 => 65519,
-        _ => 65521,
-    }
+    let primes: [usize; 11] = [
+        2,
+        3,
+        5,
+        7,
+        257,
+        65519,
+        65521,
+        65537,
+        2147483647,
+        4294967279,
+        4294967291,
+    ];
+    primes[clip(n, LARGEST)]
 }
 
 // The smaller of the two.
@@ -148,7 +178,20 @@ pub fn wide(a: Symbol) -> usize
 }
 
 pub fn narrow(a: usize) -> Symbol
+    ensures { λ r. ⌜ r ≡ symbolOf a ⌝ }
+{
+    (a % WHOLE) as Symbol
+}
+
+// The same for what has 16 bits: refusals, and who has reported.
+pub fn wide16(a: u16) -> usize
+    ensures { λ r. ⌜ r ≡ a ⌝ }
+{
+    a as usize
+}
+
+pub fn narrow16(a: usize) -> u16
     ensures { λ r. ⌜ r ≡ low a ⌝ }
 {
-    (a % 65536) as Symbol
+    (a % HALF) as u16
 }

@@ -1,12 +1,13 @@
 // Runs of symbols and of bytes. 0 past the end, so that no caller has to show that a place is inside; a write there changes nothing.
 ghost use mathlib.Core.Path.{_≡_};
 ghost use Prim.Native.Nat.{_%_};
-ghost use Rattle.testing.specs.Numbers.{low};
+ghost use Rattle.testing.specs.Numbers.{symbolOf};
 ghost use Rattle.testing.specs.Slices.{at, wordAt, replaced, filled, filledBytes, sameFront, largeOf, columnOf};
 use crate::numbers::drawn;
 use crate::numbers::mul_add;
 use crate::numbers::narrow;
 use crate::numbers::residue;
+use crate::numbers::state;
 use crate::numbers::wide;
 use arithmetic::Symbol;
 
@@ -23,7 +24,7 @@ pub fn at(t: &[Symbol], i: usize) -> usize
 }
 
 pub fn put(t: &mut [Symbol], i: usize, a: usize)
-    ensures { λ _. ⌜ now (t .exit) ≡ replaced (now (t .entry)) i (low a) ⌝ }
+    ensures { λ _. ⌜ now (t .exit) ≡ replaced (now (t .entry)) i (symbolOf a) ⌝ }
 {
     if i < t.len() {
         t[i] = narrow(a);
@@ -59,7 +60,7 @@ pub fn fill(t: &mut [Symbol], q: usize, x: usize)
     ensures { λ _. ⌜ now (t .exit) ≡ filled q x (now (t .entry)) ⌝ }
 {
     for i in 0..t.len() {
-        put(t, i, residue(drawn(x, i), q));
+        put(t, i, residue(state(x, i), q));
     }
 }
 

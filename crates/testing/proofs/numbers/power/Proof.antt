@@ -38,6 +38,5 @@ power-spec =
     (search needs)
     (search needs)
     (search needs)
-    (search needs)
     loop-again
     returns)

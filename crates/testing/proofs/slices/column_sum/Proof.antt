@@ -1,4 +1,4 @@
--- The invariant: the sum of the first i rows, at most 65,535 for each.
+-- The invariant: the sum of the first i rows, at most 4,294,967,295 for each.
 use borrow.Author.Needs.{needs}
 use mathlib.Core.Path.{_≡_, refl, sym, ap, ap₂, _∙_}
 use Prim.Native.Nat.{ℕ, _+_, _*_, _-_, _%_, _≤_, _<_}
@@ -10,7 +10,7 @@ use Rattle.testing.proofs.slices.column_sum.Statement.{statement}
 use Rattle.testing.proofs.slices.column_sum.Tie as tie
 
 abbrev Inv-loop : tie.InvT-loop
-Inv-loop t rows cols k n sum₀ i₀ sum i = (n < 65536) × (i ≤ n) × (sum ≤ 65535 * i) × (sum ≡ columnOf t i cols k)
+Inv-loop t rows cols k n sum₀ i₀ sum i = (n < 65536) × (i ≤ n) × (sum ≤ 4294967295 * i) × (sum ≡ columnOf t i cols k)
 
 abbrev μ-loop : tie.MeasureT-loop
 μ-loop t rows cols k n sum₀ i₀ sum i = n - i

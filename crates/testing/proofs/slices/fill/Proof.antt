@@ -5,14 +5,14 @@ use mathlib.Core.List.{List}
 use Prim.Native.Nat.{ℕ, _≤_, _-_}
 use native.Mathlib.Omega.{arith}
 use lib.ListN.{length}
-use Rattle.testing.specs.Numbers.{residueOf, low, drawnOf}
+use Rattle.testing.specs.Numbers.{residueOf, symbolOf, stateOf}
 use Rattle.testing.specs.Slices.{replaced, overwritten, filled}
 use Rattle.testing.proofs.Loops.{written-next, length-written}
 use Rattle.testing.proofs.slices.fill.Statement.{statement}
 use Rattle.testing.proofs.slices.fill.Tie as tie
 
 abbrev Inv-loop : tie.InvT-loop
-Inv-loop t₀ q x i₀ i-end t i = (i ≤ i-end) × (i-end ≡ length t₀) × (t ≡ overwritten i (λ k. low (residueOf q (drawnOf x k))) t₀)
+Inv-loop t₀ q x i₀ i-end t i = (i ≤ i-end) × (i-end ≡ length t₀) × (t ≡ overwritten i (λ k. symbolOf (residueOf q (stateOf x k))) t₀)
 
 abbrev μ-loop : tie.MeasureT-loop
 μ-loop t₀ q x i₀ i-end t i = i-end - i
@@ -25,14 +25,14 @@ loop-again : tie.Need-loop-again Inv-loop μ-loop
 loop-again c =
     let s = c .before .before .before .before .before .before .before .loop in
     let a = c .before .before .before .before .before .before .before .before .before .args in
-    let f : ℕ → ℕ = λ k. low (residueOf (a .q) (drawnOf (a .x) k)) in
-    let number : c .before .before .before .before .drawn .result ≡ drawnOf (a .x) (s .i) = c .before .before .before .before .drawn .ensures in
-    let value : c .before .before .before .residue .result ≡ residueOf (a .q) (drawnOf (a .x) (s .i)) = c .before .before .before .residue .ensures ∙ ap
+    let f : ℕ → ℕ = λ k. symbolOf (residueOf (a .q) (stateOf (a .x) k)) in
+    let number : c .before .before .before .before .state .result ≡ stateOf (a .x) (s .i) = c .before .before .before .before .state .ensures in
+    let value : c .before .before .before .residue .result ≡ residueOf (a .q) (stateOf (a .x) (s .i)) = c .before .before .before .residue .ensures ∙ ap
     (residueOf (a .q)) number in
     let list : s .t ≡ overwritten (s .i) f (a .t .now) = s .inv .2 in (
       omega arith,
       refl,
-      c .before .before .put .ensures ∙ ap₂ (λ (l : List ℕ) (v : ℕ). replaced l (s .i) (low v)) list value ∙ sym
+      c .before .before .put .ensures ∙ ap₂ (λ (l : List ℕ) (v : ℕ). replaced l (s .i) (symbolOf v)) list value ∙ sym
           (written-next f (a .t .now) (s .i)),
     )
 
