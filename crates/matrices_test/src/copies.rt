@@ -27,7 +27,7 @@ fn copy_without(case: usize, n: usize, t: &[Symbol], other: &mut [Symbol]) {
 
 // Every third copy is to as many. The other table is nothing but zeros before.
 pub fn agrees(case: usize, t: &mut [Symbol], other: &mut [Symbol]) -> bool {
-    fill(65521, seed(case), t);
+    fill(4294967291, seed(case), t);
     let n = clip(case % 3, t.len());
     copy_without(case, n, t, other);
     if n == 0 {

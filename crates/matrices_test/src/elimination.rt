@@ -8,6 +8,7 @@ use crate::tables::entry;
 use crate::tables::fill;
 use crate::tables::first_column;
 use arithmetic::Symbol;
+use testing::PRIMES;
 use testing::at;
 use testing::draw;
 use testing::narrow;
@@ -21,7 +22,7 @@ use testing::step;
 // 1 to 8 rows and 0 to 8 columns, and now and then the largest shape.
 fn shape(case: usize) -> Shape {
     let x = seed(case);
-    let q = prime(draw(x, 10));
+    let q = prime(draw(x, PRIMES));
     if case % 64 == 0 {
         return Shape {
             q,

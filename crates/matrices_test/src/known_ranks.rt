@@ -9,6 +9,7 @@ use crate::tables::set_row;
 use arithmetic::Symbol;
 use std::num::wrapping_add_usize;
 use std::num::wrapping_sub_usize;
+use testing::PRIMES;
 use testing::at;
 use testing::draw;
 use testing::narrow;
@@ -27,15 +28,26 @@ struct KnownRank {
     first: usize,
 }
 
-fn plain(rows: usize, cols: usize, rank: usize) -> KnownRank {
+fn plain(q: usize, rows: usize, cols: usize, rank: usize) -> KnownRank {
     KnownRank {
-        shape: Shape {
-            q: 65521,
-            rows,
-            cols,
-        },
+        shape: Shape { q, rows, cols },
         rank,
         first: 0,
+    }
+}
+
+// The largest and the smallest shapes.
+fn outermost(q: usize, n: usize) -> KnownRank {
+    match n {
+        0 => plain(q, 0, 48, 0),
+        1 => plain(q, 48, 0, 0),
+        2 => plain(q, 0, 0, 0),
+        3 => plain(q, 48, 48, 48),
+        4 => plain(q, 48, 48, 47),
+        5 => plain(q, 48, 48, 1),
+        6 => plain(q, 48, 48, 0),
+        7 => plain(q, 48, 1, 1),
+        _ => plain(q, 1, 48, 1),
     }
 }
 
@@ -51,7 +63,7 @@ fn drawn(case: usize) -> KnownRank {
     let first = draw(w, wrapping_sub_usize(cols, rank) % 49 + 1);
     KnownRank {
         shape: Shape {
-            q: prime(draw(step(w), 10)),
+            q: prime(draw(step(w), PRIMES)),
             rows,
             cols,
         },
@@ -60,18 +72,11 @@ fn drawn(case: usize) -> KnownRank {
     }
 }
 
-// The largest and the smallest shapes first.
+// Those first, with the largest primes of 16 and of 32 bits.
 fn known(case: usize) -> KnownRank {
     match case {
-        0 => plain(0, 48, 0),
-        1 => plain(48, 0, 0),
-        2 => plain(0, 0, 0),
-        3 => plain(48, 48, 48),
-        4 => plain(48, 48, 47),
-        5 => plain(48, 48, 1),
-        6 => plain(48, 48, 0),
-        7 => plain(48, 1, 1),
-        8 => plain(1, 48, 1),
+        0..=8 => outermost(65521, case),
+        9..=17 => outermost(4294967291, case % 9),
         _ => drawn(case),
     }
 }
@@ -94,7 +99,7 @@ fn start_entry(m: KnownRank, j: usize, k: usize, x: usize) -> usize {
     if k == one {
         return 1;
     }
-    draw(x, m.shape.q)
+    residue(x, m.shape.q)
 }
 
 fn fill_start(m: KnownRank, seed: usize, t: &mut [Symbol]) {
@@ -112,7 +117,7 @@ fn add_row(s: Shape, t: &mut [Symbol], x: usize) {
     let j = draw(x, s.rows);
     let b = draw(y, s.rows);
     if j != b {
-        set_row(s, t, j, 1, j, draw(step(y), s.q), b);
+        set_row(s, t, j, 1, j, residue(step(y), s.q), b);
     }
 }
 

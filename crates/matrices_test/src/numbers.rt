@@ -1,6 +1,6 @@
 // Arithmetic modulo q another way: on usize, which also counts places in tables, with a remainder after each step.
 use std::num::wrapping_sub_usize;
-use testing::product;
+use testing::product_mod;
 use testing::residue;
 use testing::seed;
 
@@ -9,9 +9,9 @@ pub fn skip(x: usize) -> usize {
     seed(seed(x))
 }
 
-// a + m b modulo q.
+// a + m b modulo q, for numbers of 32 bits.
 pub fn mul_add(q: usize, a: usize, m: usize, b: usize) -> usize {
-    residue(a % 65536 + product(m, b), q)
+    residue(a % 4294967296 + product_mod(q, m, b), q)
 }
 
 // a to the power n modulo q: by squares, from the exponent's lowest binary digit on.

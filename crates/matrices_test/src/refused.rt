@@ -8,8 +8,8 @@ use testing::draw;
 use testing::put;
 use testing::seed;
 
-// 8 shapes, 3 lengths, 8 moduli and 4 numbers.
-pub const CASES: usize = 768;
+// 8 shapes, 3 lengths, 14 moduli and 6 numbers.
+pub const CASES: usize = 2016;
 
 struct Choice {
     shape: usize,
@@ -22,33 +22,51 @@ fn choose(case: usize) -> Choice {
     Choice {
         shape: case % 8,
         length: case / 8 % 3,
-        modulus: case / 24 % 8,
-        number: case / 192,
+        modulus: case / 24 % 14,
+        number: case / 336,
     }
 }
 
-// The first four are primes.
+// How many of the moduli are primes: the first ones.
+const PRIME_MODULI: usize = 7;
+
+// The last is the square of the largest prime of 16 bits.
 fn modulus(n: usize) -> usize {
     match n {
         0 => 2,
         1 => 7,
         2 => 257,
         3 => 65521,
-        4 => 0,
-        5 => 1,
-        6 => 4,
-        _ => 65535,
+        4 => 65537,
+        5 => 2147483647,
+        6 => 4294967291,
+        7 => 0,
+        8 => 1,
+        9 => 4,
+        10 => 65535,
+        11 => 65536,
+        12 => 4294967295,
+        _ => 4293001441,
     }
 }
 
-// The one number of the table that may not be 0. The first two are below q.
+// The one number of the table that may not be 0.
 fn number(q: usize, n: usize) -> usize {
     match n {
         0 => 0,
         1 => wrapping_sub_usize(q, 1),
         2 => q,
-        _ => 65535,
+        3 => 65535,
+        4 => 65536,
+        _ => 4294967295,
     }
+}
+
+fn rank_of(a: usize, q: usize) -> usize {
+    if a >= q {
+        return 3;
+    }
+    if a == 0 { 100 } else { 101 }
 }
 
 // In the order 1, 4, 2, 3. Where nothing is wrong the rank is 0, or 1 if the table has a number that is not 0; shapes 2 and 3 have no numbers.
@@ -59,16 +77,13 @@ fn expected(c: Choice) -> usize {
     if c.length != 0 {
         return 4;
     }
-    if c.modulus >= 4 {
+    if c.modulus >= PRIME_MODULI {
         return 2;
     }
     if c.shape >= 2 {
         return 100;
     }
-    if c.number >= 2 {
-        return 3;
-    }
-    100 + c.number
+    rank_of(number(modulus(c.modulus), c.number), modulus(c.modulus))
 }
 
 pub fn length(case: usize) -> usize {

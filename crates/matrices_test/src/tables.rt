@@ -9,8 +9,9 @@ use testing::draw;
 use testing::narrow;
 use testing::product;
 use testing::put;
+use testing::residue;
 use testing::step;
-use testing::wide;
+use testing::wide16;
 
 pub struct Shape {
     pub q: usize,
@@ -44,7 +45,7 @@ fn draw_number(q: usize, x: usize) -> usize {
     if draw(x, 3) == 0 {
         return 0;
     }
-    draw(step(x), q)
+    residue(step(x), q)
 }
 
 // Numbers below q at every place.
@@ -68,7 +69,7 @@ pub fn set_row(s: Shape, t: &mut [Symbol], j: usize, c: usize, a: usize, d: usiz
 
 fn number_of(refusal: Refusal) -> usize {
     let code = refusals::code_of(refusal);
-    wide(code.number)
+    wide16(code.number)
 }
 
 // What the library's rank says: the number of a refusal, else 100 more than the rank.

@@ -3,6 +3,7 @@ use crate::shapes::length_of;
 use crate::shapes::shape_of;
 use crate::tables::fill;
 use arithmetic::Symbol;
+use testing::narrow;
 use testing::same;
 use testing::seed;
 
@@ -31,19 +32,20 @@ fn row(case: usize, rows: usize) -> usize {
     }
 }
 
-fn finds(case: usize, t: &mut [Symbol]) -> bool {
-    let s = shape_of(7, combination(case) % 8);
+fn finds(q: usize, case: usize, t: &mut [Symbol]) -> bool {
+    let s = shape_of(q, combination(case) % 8);
     if case < 24 {
-        return matrices::eliminate(7, s.rows, s.cols, row(case, s.rows), t);
+        return matrices::eliminate(narrow(q), s.rows, s.cols, row(case, s.rows), t);
     }
-    matrices::reduce_rows(7, s.rows, s.cols, t) != 0
+    matrices::reduce_rows(narrow(q), s.rows, s.cols, t) != 0
 }
 
 pub fn agrees(case: usize, t: &mut [Symbol], old: &mut [Symbol]) -> bool {
+    let q = if case % 3 == 0 { 7 } else { 4294967291 };
     let x = seed(case);
-    fill(7, x, t);
-    fill(7, x, old);
-    if finds(case, t) {
+    fill(q, x, t);
+    fill(q, x, old);
+    if finds(q, case, t) {
         return false;
     }
     same(old, t)
