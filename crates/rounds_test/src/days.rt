@@ -10,6 +10,7 @@ use crate::ledger::round_of;
 use crate::model::beyond;
 use crate::model::holds_sums;
 use crate::numbers::DIFFER;
+use crate::numbers::UNTOUCHED;
 use crate::numbers::one_in;
 use crate::numbers::pick;
 use crate::shapes::block;
@@ -36,6 +37,7 @@ use testing::residue;
 use testing::seed;
 use testing::state;
 use testing::wide;
+use testing::wide16;
 
 // The relay as the library has it and as the ledger says; whether the two differed at some event; and the mistake to be planted at the next.
 struct Day {
@@ -139,7 +141,7 @@ fn sender(round: Round, x: usize) -> usize {
         1 => wrapping_add_usize(round.size, 1),
         2 => edge(pick(x, 98, 9)),
         3 | 4 => wrapping_add_usize(place, 1),
-        _ => owing(wide(round.reported), round.size, place),
+        _ => owing(wide16(round.reported), round.size, place),
     }
 }
 
@@ -152,7 +154,7 @@ fn heard(
     said: u32,
     block: &[Symbol],
 ) -> Day {
-    let names = product(wide(aim.reported), 2);
+    let names = product(wide16(aim.reported), 2);
     let number = frame_number(aim.size, aim, names, sender, said, block);
     let relay = day.relay;
     let step = relay.count(sender, said, block);
@@ -202,7 +204,7 @@ fn sums(day: Day, x: usize) -> Day {
     let want = day.want;
     let round = want.round;
     let n = clip(room(x, round.length), 66);
-    let mut out = [65535 as Symbol; 66];
+    let mut out = [UNTOUCHED; 66];
     given(day, &mut out[..n])
 }
 

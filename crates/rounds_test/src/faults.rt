@@ -11,6 +11,7 @@ use testing::power;
 use testing::product;
 use testing::quotient;
 use testing::wide;
+use testing::wide16;
 
 // How many may report: relays to the server, users to a relay.
 pub fn senders(server: bool, round: Round) -> usize {
@@ -18,10 +19,11 @@ pub fn senders(server: bool, round: Round) -> usize {
 }
 
 // The primes that are tried; all other numbers that are tried are none.
-fn is_prime(q: Symbol) -> bool {
+pub fn is_prime(q: Symbol) -> bool {
     match q {
         2 | 3 | 5 | 7 => true,
-        257 | 65519 | 65521 => true,
+        257 | 65519 | 65521 | 65537 => true,
+        2147483647 | 4294967279 | 4294967291 => true,
         _ => false,
     }
 }
@@ -65,8 +67,8 @@ pub fn state_number(server: bool, s: RelayRound, otherwise: usize) -> usize {
     let both = sums_number(&others, wide(round.q), round.length, first);
     let large = over(server, first, both);
     let most = power(65536, 2, senders(server, round) % 16);
-    let second = over(over(server, 0, wide(ahead.reported)) >= most, 8, large);
-    opening_number(server, s, over(wide(round.reported) >= most, 8, second))
+    let second = over(over(server, 0, wide16(ahead.reported)) >= most, 8, large);
+    opening_number(server, s, over(wide16(round.reported) >= most, 8, second))
 }
 
 // A frame, held against the round that it is for: 8, 14, 4, 3, 11.
@@ -90,7 +92,7 @@ pub fn frame_number(
 pub fn give_number(senders: usize, round: Round, room: usize) -> usize {
     let all = power(65536, 2, senders % 16);
     over(
-        wrapping_add_usize(wide(round.reported), 1) != all,
+        wrapping_add_usize(wide16(round.reported), 1) != all,
         12,
         over(room != round.length, 4, 0),
     )

@@ -9,12 +9,13 @@ use std::num::wrapping_add_usize;
 use std::num::wrapping_sub_usize;
 use testing::at;
 use testing::clip;
-use testing::drawn;
 use testing::narrow;
+use testing::narrow16;
 use testing::power;
 use testing::product;
 use testing::put;
 use testing::residue;
+use testing::state;
 use testing::wide;
 
 // What was opened, and the list: three numbers an entry, which are the round, counted from the day's first one, the sender, and the number of the event,
@@ -47,7 +48,7 @@ fn sum(list: &[Symbol], entries: usize, round: usize, blocks: usize, q: usize, p
         let a = product(i, 3);
         if at(list, a) == round {
             let x = wrapping_add_usize(blocks, at(list, wrapping_add_usize(a, 2)));
-            n = wrapping_add_usize(n, residue(drawn(x, p), q));
+            n = wrapping_add_usize(n, residue(state(x, p), q));
         }
     }
     residue(n, q)
@@ -64,8 +65,8 @@ pub fn round_of(ledger: Ledger, later: usize) -> Round {
     for p in 0..n {
         round.sums[p] = narrow(sum(&list, ledger.entries, offset, ledger.blocks, q, p));
     }
-    round.number = wrapping_add_u32(round.number, narrow(offset) as u32);
-    round.reported = narrow(roll(&list, ledger.entries, offset));
+    round.number = wrapping_add_u32(round.number, narrow(offset));
+    round.reported = narrow16(roll(&list, ledger.entries, offset));
     round
 }
 

@@ -1,4 +1,5 @@
 // The cases of document 01 that are to be run, with their answers written out.
+use crate::numbers::UNTOUCHED;
 use crate::numbers::compared;
 use crate::numbers::holds;
 use crate::numbers::number_of;
@@ -38,7 +39,7 @@ fn second_frame() -> usize {
 // A draw of 5 symbols from a stream of 8. What the buffer holds and where the position stands are compared too: a refused draw leaves both.
 fn draws(at: usize, number: usize) -> usize {
     let stream = [1 as Symbol, 2, 3, 4, 5, 6, 7, 8];
-    let mut out = [65535 as Symbol; 5];
+    let mut out = [UNTOUCHED; 5];
     let drawn = draw_from(&stream, at, 5, &mut out);
     let answer = drawn.answer;
     let same = holds(&out, number, &stream, at) && drawn.at == over(number > 0, at, 8);

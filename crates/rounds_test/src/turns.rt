@@ -10,6 +10,7 @@ use crate::model::beyond;
 use crate::model::handed;
 use crate::model::holds_sums;
 use crate::model::with_names;
+use crate::numbers::UNTOUCHED;
 use crate::numbers::one_in;
 use crate::numbers::pick;
 use crate::shapes::block;
@@ -32,10 +33,12 @@ use std::num::wrapping_add_usize;
 use testing::clip;
 use testing::mul_add;
 use testing::narrow;
+use testing::narrow16;
 use testing::over;
 use testing::power;
 use testing::seed;
 use testing::wide;
+use testing::wide16;
 
 // A refused opening hands back zeros.
 pub fn opening(case: usize) -> usize {
@@ -70,7 +73,7 @@ fn expected(number: usize, given: Round, names: usize, x: usize, mistake: usize)
     if number == 0 {
         want = with_names(given, names, x);
     }
-    want.reported = want.reported ^ narrow(mistake % 2);
+    want.reported = want.reported ^ narrow16(mistake % 2);
     want.sums[0] = want.sums[0] ^ narrow(mistake / 2);
     want
 }
@@ -107,7 +110,7 @@ fn counted(
     if early {
         aim = next_round(given, s.ahead);
     }
-    let names = mul_add(x % 2, 2, wide(aim.reported));
+    let names = mul_add(x % 2, 2, wide16(aim.reported));
     let frame = frame_number(senders(server, given), aim, names, sender, said, block);
     let number = state_number(server, s, frame);
     let more = wrapping_add_usize(names, power(65536, 2, sender % 16));
@@ -175,6 +178,6 @@ pub fn sums(case: usize) -> usize {
     let s = handed(server, x);
     let round = s.round;
     let n = clip(room(x, round.length), 66);
-    let mut out = [65535 as Symbol; 66];
+    let mut out = [UNTOUCHED; 66];
     given(server, s, &mut out[..n])
 }

@@ -38,5 +38,4 @@ round-of-spec =
     (search needs)
     (search needs)
     (search needs)
-    (search needs)
     (search needs))
