@@ -1,12 +1,15 @@
 // The catalogue of refusals: made from their numbers, and read back.
 use crate::cases::Case;
+use crate::numbers::OF_16_BITS;
+use crate::numbers::OF_32_BITS;
+use crate::numbers::low16;
 use refusals::Code;
 use refusals::Refusal;
 use refusals::Verdict;
 
 // A code as one number, which is above all of 32 bits.
 pub fn pack(number: u16, first: u16, second: u16) -> u64 {
-    (number as u64 + 1) * 4294967296 + first as u64 * 65536 + second as u64
+    (number as u64 + 1) * OF_32_BITS + first as u64 * OF_16_BITS + second as u64
 }
 
 pub fn packed(code: Code) -> u64 {
@@ -45,11 +48,18 @@ fn second_code(number: u16, first: u16, second: u16) -> u64 {
     }
 }
 
+fn case_refusal(c: Case) -> Refusal {
+    refusal(low16(c.q), low16(c.a), low16(c.b))
+}
+
+fn case_code(c: Case) -> u64 {
+    second_code(low16(c.q), low16(c.a), low16(c.b))
+}
+
 pub fn refusal_agrees(c: Case) -> bool {
-    packed(refusals::code_of(refusal(c.q, c.a, c.b))) == second_code(c.q, c.a, c.b)
+    packed(refusals::code_of(case_refusal(c))) == case_code(c)
 }
 
 pub fn verdict_agrees(c: Case) -> bool {
-    let verdict = Verdict::Refused(refusal(c.q, c.a, c.b));
-    packed(refusals::verdict_code(verdict)) == second_code(c.q, c.a, c.b)
+    packed(refusals::verdict_code(Verdict::Refused(case_refusal(c)))) == case_code(c)
 }

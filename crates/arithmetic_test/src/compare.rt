@@ -5,6 +5,7 @@ use crate::cases::case_of;
 use crate::cases::next_seed;
 use crate::catalogue::refusal_agrees;
 use crate::catalogue::verdict_agrees;
+use crate::divisors::Divisors;
 use crate::divisors::has_two;
 use crate::operations::Operation;
 use crate::operations::operation_agrees;
@@ -14,7 +15,7 @@ use crate::slices::place_agrees;
 use crate::tally::Tally;
 use crate::tally::counted;
 use crate::tally::none;
-use arithmetic::is_prime;
+pub use arithmetic::is_prime;
 
 pub enum Subject {
     IsPrime,
@@ -26,7 +27,7 @@ pub enum Subject {
     Refused(u16),
 }
 
-fn agrees(divisors: &[u8; 65536], subject: Subject, c: Case) -> bool {
+fn agrees(divisors: &Divisors, subject: Subject, c: Case) -> bool {
     match subject {
         Subject::IsPrime => is_prime(c.q) == has_two(divisors, c.q),
         Subject::AllBelow(place) => place_agrees(place, c),
@@ -37,7 +38,7 @@ fn agrees(divisors: &[u8; 65536], subject: Subject, c: Case) -> bool {
     }
 }
 
-pub fn compare(divisors: &[u8; 65536], subject: Subject, group: Group, cases: u64) -> Tally {
+pub fn compare(divisors: &Divisors, subject: Subject, group: Group, cases: u64) -> Tally {
     let mut tally = none();
     let mut seed: u64 = 1;
     for k in 0..cases {

@@ -5,13 +5,17 @@ use crate::catalogue::packed;
 use crate::counting::add_often;
 use crate::counting::inverse;
 use crate::counting::last_below;
+use crate::counting::one;
 use crate::counting::power;
 use crate::counting::rest;
 use crate::counting::symbol_difference;
 use crate::counting::symbol_sum;
+use crate::divisors::Divisors;
 use crate::divisors::has_two;
+use crate::numbers::LARGEST;
 use crate::numbers::wide;
 use arithmetic::Answer;
+use arithmetic::Symbol;
 
 pub enum Operation {
     Sum,
@@ -31,7 +35,7 @@ fn second_result(operation: Operation, c: Case) -> u64 {
     let a = rest(q, wide(c.a));
     let b = wide(c.b);
     match operation {
-        Operation::Sum => add_often(q, a, rest(q, 1), b),
+        Operation::Sum => add_often(q, a, one(q), b),
         Operation::Difference => add_often(q, a, last_below(q), b),
         Operation::SymbolSum => symbol_sum(q, wide(c.a), b),
         Operation::SymbolDifference => symbol_difference(q, wide(c.a), b),
@@ -43,7 +47,7 @@ fn second_result(operation: Operation, c: Case) -> u64 {
     }
 }
 
-fn result(operation: Operation, c: Case) -> u16 {
+fn result(operation: Operation, c: Case) -> Symbol {
     match operation {
         Operation::Sum => arithmetic::add_mod(c.q, c.a, c.b),
         Operation::Difference => arithmetic::sub_mod(c.q, c.a, c.b),
@@ -66,7 +70,7 @@ pub fn outcome(answer: Answer) -> u64 {
 }
 
 // 2 where q is no prime, then 3 where a number is not below q; 0 where nothing is to be refused.
-pub fn refusal_number(divisors: &[u8; 65536], q: u16, a: u16, b: u16) -> u16 {
+pub fn refusal_number(divisors: &Divisors, q: Symbol, a: Symbol, b: Symbol) -> u16 {
     if !has_two(divisors, q) {
         return 2;
     }
@@ -77,10 +81,10 @@ pub fn refusal_number(divisors: &[u8; 65536], q: u16, a: u16, b: u16) -> u16 {
 }
 
 // The second number that is to be below q. 0 has no inverse: it is refused as a number that is never below q.
-fn second_symbol(operation: Operation, c: Case) -> u16 {
+fn second_symbol(operation: Operation, c: Case) -> Symbol {
     match operation {
         Operation::Power => c.a,
-        Operation::Inverse => if c.a == 0 { 65535 } else { c.a },
+        Operation::Inverse => if c.a == 0 { LARGEST } else { c.a },
         _ => c.b,
     }
 }
@@ -95,7 +99,7 @@ fn answer(operation: Operation, c: Case) -> Answer {
     }
 }
 
-fn checked_agrees(divisors: &[u8; 65536], operation: Operation, c: Case, second: u64) -> bool {
+fn checked_agrees(divisors: &Divisors, operation: Operation, c: Case, second: u64) -> bool {
     let number = refusal_number(divisors, c.q, c.a, second_symbol(operation, c));
     let expected = if number == 0 {
         second
@@ -117,7 +121,7 @@ fn symbols_agree(operation: Operation, c: Case, second: u64) -> bool {
 }
 
 // The opposite and the product added to a number have no form with tests.
-pub fn operation_agrees(divisors: &[u8; 65536], operation: Operation, c: Case) -> bool {
+pub fn operation_agrees(divisors: &Divisors, operation: Operation, c: Case) -> bool {
     let second = second_result(operation, c);
     if wide(result(operation, c)) != second {
         return false;

@@ -2,11 +2,13 @@
 use crate::cases::CODES;
 use crate::cases::DRAWN;
 use crate::cases::Group;
+use crate::cases::MODULI;
 use crate::cases::PAIRS;
 use crate::cases::SINGLES;
 use crate::cases::TRIPLES;
 use crate::compare::Subject;
 use crate::compare::compare;
+use crate::divisors::Divisors;
 use crate::operations::Operation;
 use crate::slices::Place;
 use crate::tally::Tally;
@@ -15,7 +17,7 @@ use crate::tally::write_tally;
 use libc::STDOUT_FILENO;
 
 // How many inputs of two numbers are to be refused.
-pub fn inputs(divisors: &[u8; 65536], name: &[u8], group: Group, cases: u64) {
+pub fn inputs(divisors: &Divisors, name: &[u8], group: Group, cases: u64) {
     io::write_all(STDOUT_FILENO, name);
     write_tally(
         compare(divisors, Subject::Refused(2), group, cases),
@@ -28,20 +30,28 @@ pub fn inputs(divisors: &[u8; 65536], name: &[u8], group: Group, cases: u64) {
     );
 }
 
-fn line(divisors: &[u8; 65536], name: &[u8], subject: Subject, group: Group, cases: u64) -> Tally {
+// How many of the tests' moduli are no primes.
+pub fn moduli(divisors: &Divisors) {
+    io::write_all(STDOUT_FILENO, b"moduli");
+    write_tally(
+        compare(divisors, Subject::Refused(2), Group::Moduli, MODULI),
+        b" refused 2\n",
+    );
+}
+
+fn line(divisors: &Divisors, name: &[u8], subject: Subject, group: Group, cases: u64) -> Tally {
     let tally = compare(divisors, subject, group, cases);
     io::write_all(STDOUT_FILENO, name);
     write_tally(tally, b" agree\n");
     tally
 }
 
-// With every q of 16 bits.
-fn every_modulus(t: Tally, divisors: &[u8; 65536], name: &[u8], subject: Subject) -> Tally {
-    joined(t, line(divisors, name, subject, Group::EveryModulus, 65536))
+fn every_modulus(t: Tally, divisors: &Divisors, name: &[u8], subject: Subject) -> Tally {
+    joined(t, line(divisors, name, subject, Group::Moduli, MODULI))
 }
 
 // The test of primes, and that of symbols where it holds.
-pub fn tests(t: Tally, divisors: &[u8; 65536]) -> Tally {
+pub fn tests(t: Tally, divisors: &Divisors) -> Tally {
     let mut s = every_modulus(t, divisors, b"is_prime", Subject::IsPrime);
     s = every_modulus(
         s,
@@ -58,7 +68,7 @@ pub fn tests(t: Tally, divisors: &[u8; 65536]) -> Tally {
 }
 
 // The test of symbols where one number is not below q.
-pub fn failing_tests(t: Tally, divisors: &[u8; 65536]) -> Tally {
+pub fn failing_tests(t: Tally, divisors: &Divisors) -> Tally {
     let mut s = every_modulus(
         t,
         divisors,
@@ -79,7 +89,7 @@ pub fn failing_tests(t: Tally, divisors: &[u8; 65536]) -> Tally {
     )
 }
 
-pub fn catalogue(t: Tally, divisors: &[u8; 65536]) -> Tally {
+pub fn catalogue(t: Tally, divisors: &Divisors) -> Tally {
     let codes = line(
         divisors,
         b"code_of",
@@ -100,7 +110,7 @@ pub fn catalogue(t: Tally, divisors: &[u8; 65536]) -> Tally {
 // All small inputs, and drawn ones.
 fn two_lines(
     t: Tally,
-    divisors: &[u8; 65536],
+    divisors: &Divisors,
     name: &[u8],
     operation: Operation,
     small: u64,
@@ -124,7 +134,7 @@ fn two_lines(
     joined(t, joined(below_sixty, drawn))
 }
 
-pub fn sums(t: Tally, divisors: &[u8; 65536]) -> Tally {
+pub fn sums(t: Tally, divisors: &Divisors) -> Tally {
     let mut s = two_lines(t, divisors, b"sum, add_mod", Operation::Sum, PAIRS);
     s = two_lines(
         s,
@@ -144,7 +154,7 @@ pub fn sums(t: Tally, divisors: &[u8; 65536]) -> Tally {
     two_lines(s, divisors, b"opposite_mod", Operation::Opposite, SINGLES)
 }
 
-pub fn products(t: Tally, divisors: &[u8; 65536]) -> Tally {
+pub fn products(t: Tally, divisors: &Divisors) -> Tally {
     let mut s = two_lines(t, divisors, b"product, mul_mod", Operation::Product, PAIRS);
     s = two_lines(s, divisors, b"mul_add_mod", Operation::MulAdd, TRIPLES);
     s = two_lines(s, divisors, b"power, power_mod", Operation::Power, PAIRS);

@@ -1,11 +1,20 @@
 // all_below on slices of up to 16 symbols, with one number that is not below q at a place, or with none.
 use crate::cases::Case;
 use crate::cases::below;
-use crate::numbers::low16;
+use crate::numbers::LARGEST;
+use crate::numbers::low32;
 use crate::numbers::sixteenth;
 use crate::numbers::step;
+use arithmetic::Symbol;
 use arithmetic::all_below;
 use std::num::wrapping_add_u64;
+
+const LENGTH: usize = 16;
+
+// Half of sixteen.
+const HALF: u64 = 8;
+
+type Symbols = [Symbol; LENGTH];
 
 pub enum Place {
     Empty,
@@ -15,16 +24,16 @@ pub enum Place {
     Last,
 }
 
-fn fill(symbols: &mut [u16; 16], q: u16, seed: u64) {
+fn fill(symbols: &mut Symbols, q: Symbol, seed: u64) {
     let mut x = seed;
-    for k in 0..16 {
+    for k in 0..LENGTH {
         x = step(x);
-        symbols[k] = below(q, low16(x / 65536));
+        symbols[k] = below(q, low32(x));
     }
 }
 
 // The second implementation: looks at all of the slice, and counts.
-fn count_not_below(q: u16, symbols: &[u16]) -> u64 {
+fn count_not_below(q: Symbol, symbols: &[Symbol]) -> u64 {
     let mut n: u64 = 0;
     for k in 0..symbols.len() {
         if q <= symbols[k] {
@@ -35,12 +44,12 @@ fn count_not_below(q: u16, symbols: &[u16]) -> u64 {
 }
 
 // What is expected by the way the slice was made is held to the count too.
-fn slice_agrees(q: u16, symbols: &[u16], expected: bool) -> bool {
+fn slice_agrees(q: Symbol, symbols: &[Symbol], expected: bool) -> bool {
     let by_count = count_not_below(q, symbols) == 0;
     by_count == expected && all_below(q, symbols) == expected
 }
 
-fn front_agrees(q: u16, symbols: &[u16], n: usize, expected: bool) -> bool {
+fn front_agrees(q: Symbol, symbols: &[Symbol], n: usize, expected: bool) -> bool {
     if n <= symbols.len() {
         slice_agrees(q, &symbols[..n], expected)
     } else {
@@ -49,19 +58,19 @@ fn front_agrees(q: u16, symbols: &[u16], n: usize, expected: bool) -> bool {
 }
 
 // An array lent as a slice.
-fn array_agrees(q: u16, symbols: &[u16; 16], n: usize, expected: bool) -> bool {
+fn array_agrees(q: Symbol, symbols: &Symbols, n: usize, expected: bool) -> bool {
     front_agrees(q, symbols, n, expected)
 }
 
 // The first n of 16 symbols; the one at the index is q, the least number that is not below q, or the largest number.
 fn made_agrees(c: Case, n: usize, index: usize, expected: bool) -> bool {
-    let mut symbols = [0u16; 16];
+    let mut symbols: Symbols = [0; LENGTH];
     fill(&mut symbols, c.q, c.seed);
-    if index < 16 {
-        symbols[index] = if sixteenth(step(c.seed)) < 8 {
+    if index < LENGTH {
+        symbols[index] = if sixteenth(step(c.seed)) < HALF {
             c.q
         } else {
-            65535
+            LARGEST
         };
     }
     array_agrees(c.q, &symbols, n, expected)
@@ -69,10 +78,10 @@ fn made_agrees(c: Case, n: usize, index: usize, expected: bool) -> bool {
 
 // Where q is 0 no number is below it.
 pub fn place_agrees(place: Place, c: Case) -> bool {
-    let last = (c.seed / 268435456 % 16) as usize;
+    let last = sixteenth(c.seed) as usize % LENGTH;
     match place {
-        Place::Empty => made_agrees(c, 0, 16, true),
-        Place::Nowhere => made_agrees(c, last + 1, 16, c.q != 0),
+        Place::Empty => made_agrees(c, 0, LENGTH, true),
+        Place::Nowhere => made_agrees(c, last + 1, LENGTH, c.q != 0),
         Place::First => made_agrees(c, last + 1, 0, false),
         Place::Middle => made_agrees(c, last + 1, last / 2, false),
         Place::Last => made_agrees(c, last + 1, last, false),

@@ -4,10 +4,10 @@ use Rattle.arithmetic_test.proofs.counting.by_doubling.Statement.{state
 use Rattle.arithmetic_test.proofs.counting.by_doubling.Tie as tie
 
 abbrev Inv-loop : tie.InvT-loop
-Inv-loop q a b sum₀ double₀ left₀ sum double left = Unit {0}
+Inv-loop q start step times n₀ double₀ left₀ n double left = Unit {0}
 
 abbrev μ-loop : tie.MeasureT-loop
-μ-loop q a b sum₀ double₀ left₀ sum double left = left
+μ-loop q start step times n₀ double₀ left₀ n double left = left
 
 pub by-doubling-spec : {M : Type 1} → statement M
 by-doubling-spec =

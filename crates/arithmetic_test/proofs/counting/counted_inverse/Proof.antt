@@ -1,8 +1,8 @@
 -- The numbers below q are counted.
 use borrow.Author.Needs.{needs}
 use Prim.Native.Nat.{_≤_, _-_}
-use Rattle.arithmetic_test.proofs.counting.inverse.Statement.{statement}
-use Rattle.arithmetic_test.proofs.counting.inverse.Tie as tie
+use Rattle.arithmetic_test.proofs.counting.counted_inverse.Statement.{statement}
+use Rattle.arithmetic_test.proofs.counting.counted_inverse.Tie as tie
 
 abbrev Inv-loop : tie.InvT-loop
 Inv-loop q a multiple₀ x₀ multiple x = x ≤ q
@@ -10,8 +10,8 @@ Inv-loop q a multiple₀ x₀ multiple x = x ≤ q
 abbrev μ-loop : tie.MeasureT-loop
 μ-loop q a multiple₀ x₀ multiple x = q - x
 
-pub inverse-spec : {M : Type 1} → statement M
-inverse-spec =
+pub counted-inverse-spec : {M : Type 1} → statement M
+counted-inverse-spec =
     tie.close
     (tie.spec
     Inv-loop
