@@ -9,16 +9,23 @@
  * call writes to overlaps nothing else that is passed to that call. Nothing is kept between calls, nothing is allocated, and
  * calls from several threads at once don't disturb each other.
  *
- * A symbol is a whole number below the plan's prime q, held in 16 bits. A plan has
+ * A symbol is a whole number below the plan's prime q, held in 32 bits. A plan has
  *
  *     clusters  U, from 1 to 8
  *     size      V, users in a cluster, from 1 to 8; U x V is at most 16
  *     limit     T, the most users of a coalition, from 0 to U x V
  *     rate      R, source symbols a position, from 1 to 16
- *     q         a prime from 2 to 65,521
+ *     q         a prime from 2 to 4,294,967,291
  *
  * and a key table of U x V rows, user by user and cluster by cluster, of R symbols each. The user number v of cluster u, both
  * from 1, has index (u - 1) x V + v - 1. A coalition is a number with one bit for each user's index.
+ *
+ * A plan record is the bytes of a plan: U, V, T and R in one byte each; q; the symbols of the key table; the distance D from its
+ * first byte to its end, in two bytes; two marks. Every number has its low byte first. There are two kinds, and q decides which
+ * one a plan has:
+ *
+ *     old    q below 65,536: q and each symbol in two bytes, D = 10 + 2 x U x V x R, marks 4B 50
+ *     wide   q of 65,536 or more: q and each symbol in four bytes, D = 12 + 4 x U x V x R, marks 4B 51
  */
 #ifndef KORTYGHAI_H
 #define KORTYGHAI_H
@@ -38,7 +45,7 @@ extern "C" {
 /* The numbers. Both details are 0, but for 6 and 7. */
 #define KORTYGHAI_ACCEPTED 0
 #define KORTYGHAI_OUT_OF_BOUNDS 1     /* a count of the plan is outside its bounds */
-#define KORTYGHAI_NOT_PRIME 2         /* q is no prime */
+#define KORTYGHAI_NOT_PRIME 2         /* q is no prime, or below 65,536 in a wide record */
 #define KORTYGHAI_NOT_A_SYMBOL 3      /* a symbol is not below q */
 #define KORTYGHAI_WRONG_LENGTH 4      /* a buffer, table or record of the wrong length */
 #define KORTYGHAI_BAD_TRAILER 5       /* the bytes don't end with a trailer whose record lies in them */
@@ -64,30 +71,31 @@ extern "C" {
  *
  * Refuses, the first that holds: 1, 4, 2, 3, 6, 7.
  */
-uint64_t kortyghai_vet(size_t clusters, size_t size, size_t limit, size_t rate, uint16_t q, const uint16_t *table,
+uint64_t kortyghai_vet(size_t clusters, size_t size, size_t limit, size_t rate, uint32_t q, const uint32_t *table,
                        size_t table_len);
 
 /*
- * The vet's answer on the plan record at the end of the bytes; what stands before the record doesn't matter. It is what the
- * program `vet` prints for these bytes.
+ * The vet's answer on the plan record, old or wide, at the end of the bytes; what stands before the record doesn't matter. It is
+ * what the program `vet` prints for these bytes.
  *
  *     bytes   at most 65,535 bytes
  *
  * Refuses, the first that holds: 4 (more than 65,535 bytes), then the reader's 5, 1, 4 (the record's length is not that of its
- * plan), 2, 3, then the vet's 6, 7.
+ * plan), 2, 3, as below, then the vet's 6, 7.
  */
 uint64_t kortyghai_vet_record(const uint8_t *bytes, size_t bytes_len);
 
 /*
- * Reads the plan record at the end of the bytes, without vetting it.
+ * Reads the plan record, old or wide, at the end of the bytes, without vetting it.
  *
  *     table    exactly 256 symbols: the key table is put there, and 0 past its U x V x R symbols
  *     counts   exactly 5 numbers: U, V, T, R and q are put there, in this order
  *
- * Refuses, the first that holds: 5, 1, 4 (the record's length is not that of its plan, table has not exactly 256 symbols, or
- * counts has not exactly 5 numbers), 2, 3.
+ * Refuses, the first that holds: 5 (under four bytes, neither kind's marks, D under 10 of the old or under 12 of the wide, or
+ * beyond the bytes), 1, 4 (D is not that of the record's plan, table has not exactly 256 symbols, or counts has not exactly 5
+ * numbers), 2 (q is no prime, or below 65,536 in a wide record), 3.
  */
-uint64_t kortyghai_read_record(const uint8_t *bytes, size_t bytes_len, uint16_t *table, size_t table_len, uint16_t *counts,
+uint64_t kortyghai_read_record(const uint8_t *bytes, size_t bytes_len, uint32_t *table, size_t table_len, uint32_t *counts,
                                size_t counts_len);
 
 /*
@@ -99,7 +107,7 @@ uint64_t kortyghai_read_record(const uint8_t *bytes, size_t bytes_len, uint16_t 
  *
  * Refuses, the first that holds: 1, 2, 3, 10, 4, 7 (the table that the generator gives leaks).
  */
-uint64_t kortyghai_make_table(size_t clusters, size_t size, size_t limit, uint16_t q, uint16_t generator, uint16_t *table,
+uint64_t kortyghai_make_table(size_t clusters, size_t size, size_t limit, uint32_t q, uint32_t generator, uint32_t *table,
                               size_t table_len);
 
 /*
@@ -112,8 +120,8 @@ uint64_t kortyghai_make_table(size_t clusters, size_t size, size_t limit, uint16
  *
  * Refuses, the first that holds: the vet's 1, 4, 2, 3, 6, 7, then 9, 4 (source or keys), 3 (a symbol of source).
  */
-uint64_t kortyghai_derive_keys(size_t clusters, size_t size, size_t limit, size_t rate, uint16_t q, const uint16_t *table,
-                               size_t table_len, size_t length, const uint16_t *source, size_t source_len, uint16_t *keys,
+uint64_t kortyghai_derive_keys(size_t clusters, size_t size, size_t limit, size_t rate, uint32_t q, const uint32_t *table,
+                               size_t table_len, size_t length, const uint32_t *source, size_t source_len, uint32_t *keys,
                                size_t keys_len);
 
 /*
@@ -126,8 +134,8 @@ uint64_t kortyghai_derive_keys(size_t clusters, size_t size, size_t limit, size_
  *
  * Refuses, the first that holds: 2, 9, 4, 3.
  */
-uint64_t kortyghai_upload(uint16_t q, size_t length, const uint16_t *readings, size_t readings_len, const uint16_t *key,
-                          size_t key_len, uint16_t *out, size_t out_len);
+uint64_t kortyghai_upload(uint32_t q, size_t length, const uint32_t *readings, size_t readings_len, const uint32_t *key,
+                          size_t key_len, uint32_t *out, size_t out_len);
 
 /*
  * Takes a key off its upload: upload minus key, position by position, modulo q, which gives the readings back.
@@ -139,8 +147,8 @@ uint64_t kortyghai_upload(uint16_t q, size_t length, const uint16_t *readings, s
  *
  * Refuses, the first that holds: 2, 9, 4, 3.
  */
-uint64_t kortyghai_unmask(uint16_t q, size_t length, const uint16_t *upload, size_t upload_len, const uint16_t *key,
-                          size_t key_len, uint16_t *out, size_t out_len);
+uint64_t kortyghai_unmask(uint32_t q, size_t length, const uint32_t *upload, size_t upload_len, const uint32_t *key,
+                          size_t key_len, uint32_t *out, size_t out_len);
 
 /*
  * Counts a frame into a relay's round, or into the next one, whose frames may come early. The relay's state is handed over in
@@ -162,9 +170,9 @@ uint64_t kortyghai_unmask(uint16_t q, size_t length, const uint16_t *upload, siz
  * or held, a symbol not below q, or one past the first L that is not 0), then of the frame 8 (sender), 14 (said is neither
  * round's number), 4, 3, 11.
  */
-uint64_t kortyghai_count_frame(size_t clusters, size_t size, uint16_t q, size_t length, size_t cluster, uint32_t number,
-                               uint16_t *reported, uint16_t *sums, uint16_t *ahead, uint16_t *held, size_t sender,
-                               uint32_t said, const uint16_t *block, size_t block_len);
+uint64_t kortyghai_count_frame(size_t clusters, size_t size, uint32_t q, size_t length, size_t cluster, uint32_t number,
+                               uint16_t *reported, uint32_t *sums, uint16_t *ahead, uint32_t *held, size_t sender,
+                               uint32_t said, const uint32_t *block, size_t block_len);
 
 /*
  * Moves a relay on to its next round, once every user of its cluster has reported: number becomes r + 1, reported and sums
@@ -174,8 +182,8 @@ uint64_t kortyghai_count_frame(size_t clusters, size_t size, uint16_t q, size_t 
  * Refuses, the first that holds: of the state 1, 2, 9, 8, 3, as above, then 14 (after round 4,294,967,295 there is no next),
  * 12 (a user has not reported in round r).
  */
-uint64_t kortyghai_advance(size_t clusters, size_t size, uint16_t q, size_t length, size_t cluster, uint32_t *number,
-                           uint16_t *reported, uint16_t *sums, uint16_t *ahead, uint16_t *held);
+uint64_t kortyghai_advance(size_t clusters, size_t size, uint32_t q, size_t length, size_t cluster, uint32_t *number,
+                           uint16_t *reported, uint32_t *sums, uint16_t *ahead, uint32_t *held);
 
 /*
  * A relay's sums of round r, once every user of its cluster has reported in it. The relay's state is handed over as above; none
@@ -192,8 +200,8 @@ uint64_t kortyghai_advance(size_t clusters, size_t size, uint16_t q, size_t leng
  *
  * Refuses, the first that holds: of the state 1, 2, 9, 8, 3, as above, then 12 (a user has not reported in round r), 4 (out).
  */
-uint64_t kortyghai_give_sums(size_t clusters, size_t size, uint16_t q, size_t length, size_t cluster, uint32_t number,
-                             uint16_t reported, const uint16_t *sums, uint16_t ahead, const uint16_t *held, uint16_t *out,
+uint64_t kortyghai_give_sums(size_t clusters, size_t size, uint32_t q, size_t length, size_t cluster, uint32_t number,
+                             uint16_t reported, const uint32_t *sums, uint16_t ahead, const uint32_t *held, uint32_t *out,
                              size_t out_len);
 
 #ifdef __cplusplus
