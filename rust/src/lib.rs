@@ -25,6 +25,9 @@ mod refusal;
 
 pub use refusal::Refusal;
 
+/// A whole number below a plan's prime q, and q itself: from 2 to 4,294,967,291.
+pub type Symbol = u32;
+
 /// How many symbols a table has that is lent to the reader of a record.
 pub const READ_TABLE: usize = 256;
 
@@ -44,7 +47,7 @@ pub struct Plan {
     pub size: usize,
     pub limit: usize,
     pub rate: usize,
-    pub q: u16,
+    pub q: Symbol,
 }
 
 impl Plan {
@@ -62,13 +65,14 @@ impl Plan {
 /// The vet: is the plan good, and does its key table hide from each relay and from the server what it has to hide?
 ///
 /// Refuses, the first that holds: 1, 4 (`table` has not exactly U × V × R symbols), 2, 3, 6, 7.
-pub fn vet(plan: &Plan, table: &[u16]) -> Result<(), Refusal> {
+pub fn vet(plan: &Plan, table: &[Symbol]) -> Result<(), Refusal> {
     Refusal::unpack(unsafe {
         raw::kortyghai_vet(plan.clusters, plan.size, plan.limit, plan.rate, plan.q, table.as_ptr(), table.len())
     })
 }
 
-/// The vet's answer on the plan record at the end of the bytes. What stands before the record doesn't matter.
+/// The vet's answer on the plan record at the end of the bytes, old or wide as in [`read_record`]. What stands before the record
+/// doesn't matter.
 ///
 /// Refuses, the first that holds: 4 (more than 65,535 bytes), 5, 1, 4 (the record's length is not that of its plan), 2, 3, 6, 7.
 pub fn vet_record(bytes: &[u8]) -> Result<(), Refusal> {
@@ -78,8 +82,8 @@ pub fn vet_record(bytes: &[u8]) -> Result<(), Refusal> {
 /// Reads the plan record at the end of the bytes into lent buffers, without vetting it: the key table and 0 past it into
 /// `table`, which has exactly [`READ_TABLE`] symbols, and U, V, T, R and q into `counts`, which has exactly [`COUNTS`] places.
 ///
-/// Refuses, the first that holds: 5, 1, 4 (the record's length, `table` or `counts`), 2, 3.
-pub fn read_record_into(bytes: &[u8], table: &mut [u16], counts: &mut [u16]) -> Result<(), Refusal> {
+/// Refuses, the first that holds: 5, 1, 4 (the record's length, `table` or `counts`), 2, 3, as [`read_record`] does.
+pub fn read_record_into(bytes: &[u8], table: &mut [Symbol], counts: &mut [Symbol]) -> Result<(), Refusal> {
     Refusal::unpack(unsafe {
         raw::kortyghai_read_record(bytes.as_ptr(), bytes.len(), table.as_mut_ptr(), table.len(), counts.as_mut_ptr(), counts.len())
     })
@@ -87,11 +91,24 @@ pub fn read_record_into(bytes: &[u8], table: &mut [u16], counts: &mut [u16]) -> 
 
 /// The plan and the key table of the record at the end of the bytes, not vetted.
 ///
-/// Refuses, the first that holds: 5, 1, 4 (the record's length is not that of its plan), 2, 3.
-pub fn read_record(bytes: &[u8]) -> Result<(Plan, Vec<u16>), Refusal> {
+/// A record has U, V, T and R in one byte each, then q, the symbols of the key table, the distance D back to its first byte in two
+/// bytes, and two marks; low bytes come first. An old record, of q below 65,536, has two bytes for q and for each symbol,
+/// D = 10 + 2 × U × V × R and the marks 4B 50; a wide one, of q from 65,536 on, four bytes, D = 12 + 4 × U × V × R and 4B 51.
+///
+/// ```
+/// // two clusters of one user, q 65,537, the rows 1 and 65,536
+/// let bytes = [2, 1, 0, 1, 1, 0, 1, 0, 1, 0, 0, 0, 0, 0, 1, 0, 20, 0, 0x4B, 0x51];
+/// let (plan, table) = kortyghai::read_record(&bytes)?;
+/// assert_eq!((plan.q, &table[..]), (65_537, &[1, 65_536][..]));
+/// # Ok::<(), kortyghai::Refusal>(())
+/// ```
+///
+/// Refuses, the first that holds: 5 (under four bytes, neither kind's marks, D under 10 of an old record or under 12 of a wide one,
+/// or beyond the bytes), 1, 4 (D is not that of the record's plan), 2 (no prime, or below 65,536 in a wide record), 3.
+pub fn read_record(bytes: &[u8]) -> Result<(Plan, Vec<Symbol>), Refusal> {
     let (mut table, mut counts) = ([0; READ_TABLE], [0; COUNTS]);
     read_record_into(bytes, &mut table, &mut counts)?;
-    let [clusters, size, limit, rate] = [counts[0], counts[1], counts[2], counts[3]].map(usize::from);
+    let [clusters, size, limit, rate] = [counts[0], counts[1], counts[2], counts[3]].map(|n| n as usize);
     let plan = Plan { clusters, size, limit, rate, q: counts[4] };
     Ok((plan, table[..plan.symbols()].to_vec()))
 }
@@ -108,7 +125,7 @@ fn rate_of(clusters: usize, size: usize, limit: usize) -> Option<usize> {
 /// The table maker, into a lent table of exactly U × V × R symbols, R = max(V + T, min(U + T − 1, U × V − 1)).
 ///
 /// Refuses, the first that holds: 1, 2, 3 (`generator` is not below q), 10, 4 (`table`), 7.
-pub fn make_table_into(clusters: usize, size: usize, limit: usize, q: u16, generator: u16, table: &mut [u16]) -> Result<(), Refusal> {
+pub fn make_table_into(clusters: usize, size: usize, limit: usize, q: Symbol, generator: Symbol, table: &mut [Symbol]) -> Result<(), Refusal> {
     Refusal::unpack(unsafe {
         raw::kortyghai_make_table(clusters, size, limit, q, generator, table.as_mut_ptr(), table.len())
     })
@@ -117,7 +134,7 @@ pub fn make_table_into(clusters: usize, size: usize, limit: usize, q: u16, gener
 /// A plan that the vet accepts and its key table, made of powers of the symbol `generator`.
 ///
 /// Refuses, the first that holds: 1, 2, 3 (`generator` is not below q), 10, 7.
-pub fn make_table(clusters: usize, size: usize, limit: usize, q: u16, generator: u16) -> Result<(Plan, Vec<u16>), Refusal> {
+pub fn make_table(clusters: usize, size: usize, limit: usize, q: Symbol, generator: Symbol) -> Result<(Plan, Vec<Symbol>), Refusal> {
     let plan = Plan { clusters, size, limit, rate: rate_of(clusters, size, limit).unwrap_or(0), q };
     let mut table = vec![0; plan.symbols()];
     make_table_into(clusters, size, limit, q, generator, &mut table)?;
@@ -128,7 +145,7 @@ pub fn make_table(clusters: usize, size: usize, limit: usize, q: u16, generator:
 /// `source` has exactly R × L symbols, position by position.
 ///
 /// Refuses, the first that holds: the vet's 1, 4, 2, 3, 6, 7, then 9, 4 (`source` or `keys`), 3 (a symbol of `source`).
-pub fn derive_keys_into(plan: &Plan, table: &[u16], length: usize, source: &[u16], keys: &mut [u16]) -> Result<(), Refusal> {
+pub fn derive_keys_into(plan: &Plan, table: &[Symbol], length: usize, source: &[Symbol], keys: &mut [Symbol]) -> Result<(), Refusal> {
     Refusal::unpack(unsafe {
         raw::kortyghai_derive_keys(
             plan.clusters,
@@ -148,7 +165,7 @@ pub fn derive_keys_into(plan: &Plan, table: &[u16], length: usize, source: &[u16
 }
 
 /// Each user's keys, for a plan that the vet accepts. The same refusals.
-pub fn derive_keys(plan: &Plan, table: &[u16], length: usize, source: &[u16]) -> Result<Vec<u16>, Refusal> {
+pub fn derive_keys(plan: &Plan, table: &[Symbol], length: usize, source: &[Symbol]) -> Result<Vec<Symbol>, Refusal> {
     // more than 16 users or 64 positions are refused by 1 or 9, before the length of the keys counts
     let wanted = if plan.users() <= 16 && length <= MAX_LENGTH { plan.users() * length } else { 0 };
     let mut keys = vec![0; wanted];
@@ -160,7 +177,7 @@ pub fn derive_keys(plan: &Plan, table: &[u16], length: usize, source: &[u16]) ->
 /// L = `length` symbols.
 ///
 /// Refuses, the first that holds: 2, 9, 4, 3.
-pub fn upload_into(q: u16, length: usize, readings: &[u16], key: &[u16], out: &mut [u16]) -> Result<(), Refusal> {
+pub fn upload_into(q: Symbol, length: usize, readings: &[Symbol], key: &[Symbol], out: &mut [Symbol]) -> Result<(), Refusal> {
     Refusal::unpack(unsafe {
         raw::kortyghai_upload(q, length, readings.as_ptr(), readings.len(), key.as_ptr(), key.len(), out.as_mut_ptr(), out.len())
     })
@@ -168,21 +185,21 @@ pub fn upload_into(q: u16, length: usize, readings: &[u16], key: &[u16], out: &m
 
 /// Takes a key off its upload, into a lent buffer: upload minus key, position by position, modulo q, which gives the readings
 /// back. The same lengths and refusals.
-pub fn unmask_into(q: u16, length: usize, upload: &[u16], key: &[u16], out: &mut [u16]) -> Result<(), Refusal> {
+pub fn unmask_into(q: Symbol, length: usize, upload: &[Symbol], key: &[Symbol], out: &mut [Symbol]) -> Result<(), Refusal> {
     Refusal::unpack(unsafe {
         raw::kortyghai_unmask(q, length, upload.as_ptr(), upload.len(), key.as_ptr(), key.len(), out.as_mut_ptr(), out.len())
     })
 }
 
 /// A user's upload. Refuses, the first that holds: 2, 9, 4, 3.
-pub fn upload(q: u16, readings: &[u16], key: &[u16]) -> Result<Vec<u16>, Refusal> {
+pub fn upload(q: Symbol, readings: &[Symbol], key: &[Symbol]) -> Result<Vec<Symbol>, Refusal> {
     let mut out = vec![0; readings.len()];
     upload_into(q, readings.len(), readings, key, &mut out)?;
     Ok(out)
 }
 
 /// The readings of an upload. Refuses, the first that holds: 2, 9, 4, 3.
-pub fn unmask(q: u16, upload: &[u16], key: &[u16]) -> Result<Vec<u16>, Refusal> {
+pub fn unmask(q: Symbol, upload: &[Symbol], key: &[Symbol]) -> Result<Vec<Symbol>, Refusal> {
     let mut out = vec![0; upload.len()];
     unmask_into(q, upload.len(), upload, key, &mut out)?;
     Ok(out)
@@ -217,14 +234,14 @@ pub fn unmask(q: u16, upload: &[u16], key: &[u16]) -> Result<Vec<u16>, Refusal> 
 pub struct RelayRound {
     pub clusters: usize,
     pub size: usize,
-    pub q: u16,
+    pub q: Symbol,
     pub length: usize,
     pub cluster: usize,
     pub number: u32,
     pub reported: u16,
-    pub sums: [u16; MAX_LENGTH],
+    pub sums: [Symbol; MAX_LENGTH],
     pub ahead: u16,
-    pub held: [u16; MAX_LENGTH],
+    pub held: [Symbol; MAX_LENGTH],
 }
 
 /// A frame into a relay's round: a sender from 1 to V, the round number `said` in it, and a block of exactly L symbols, which
@@ -232,7 +249,7 @@ pub struct RelayRound {
 ///
 /// Refuses, the first that holds, for the round: 1, 2, 9, 8, 3; then for the frame: 8, 14 (neither this round nor the next), 4, 3,
 /// 11 (the sender has reported in the frame's round).
-pub fn count_frame(round: &mut RelayRound, sender: usize, said: u32, block: &[u16]) -> Result<(), Refusal> {
+pub fn count_frame(round: &mut RelayRound, sender: usize, said: u32, block: &[Symbol]) -> Result<(), Refusal> {
     Refusal::unpack(unsafe {
         raw::kortyghai_count_frame(
             round.clusters,
@@ -277,7 +294,7 @@ pub fn advance(round: &mut RelayRound) -> Result<(), Refusal> {
 /// A relay's sums of its own round, into a lent buffer of exactly L symbols, once every user of its cluster has reported.
 ///
 /// Refuses, the first that holds, for the round: 1, 2, 9, 8, 3; then 12, 4 (`out`).
-pub fn give_sums_into(round: &RelayRound, out: &mut [u16]) -> Result<(), Refusal> {
+pub fn give_sums_into(round: &RelayRound, out: &mut [Symbol]) -> Result<(), Refusal> {
     Refusal::unpack(unsafe {
         raw::kortyghai_give_sums(
             round.clusters,
@@ -297,7 +314,7 @@ pub fn give_sums_into(round: &RelayRound, out: &mut [u16]) -> Result<(), Refusal
 }
 
 /// A relay's sums, once every user of its cluster has reported. Refuses, the first that holds: 1, 2, 9, 8, 3, 12.
-pub fn give_sums(round: &RelayRound) -> Result<Vec<u16>, Refusal> {
+pub fn give_sums(round: &RelayRound) -> Result<Vec<Symbol>, Refusal> {
     // more than 64 positions are refused by 9, before the length of the buffer counts
     let mut out = vec![0; round.length.min(MAX_LENGTH)];
     give_sums_into(round, &mut out)?;

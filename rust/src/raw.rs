@@ -1,45 +1,47 @@
 //! The functions of the archive. A slice is its address and its length.
 
+use crate::Symbol;
+
 extern "C" {
-    pub fn kortyghai_vet(clusters: usize, size: usize, limit: usize, rate: usize, q: u16, table: *const u16, symbols: usize) -> u64;
+    pub fn kortyghai_vet(clusters: usize, size: usize, limit: usize, rate: usize, q: Symbol, table: *const Symbol, symbols: usize) -> u64;
     pub fn kortyghai_vet_record(bytes: *const u8, given: usize) -> u64;
-    pub fn kortyghai_read_record(bytes: *const u8, given: usize, table: *mut u16, symbols: usize, counts: *mut u16, places: usize) -> u64;
-    pub fn kortyghai_make_table(clusters: usize, size: usize, limit: usize, q: u16, generator: u16, table: *mut u16, symbols: usize) -> u64;
+    pub fn kortyghai_read_record(bytes: *const u8, given: usize, table: *mut Symbol, symbols: usize, counts: *mut Symbol, places: usize) -> u64;
+    pub fn kortyghai_make_table(clusters: usize, size: usize, limit: usize, q: Symbol, generator: Symbol, table: *mut Symbol, symbols: usize) -> u64;
     pub fn kortyghai_derive_keys(
         clusters: usize,
         size: usize,
         limit: usize,
         rate: usize,
-        q: u16,
-        table: *const u16,
+        q: Symbol,
+        table: *const Symbol,
         symbols: usize,
         length: usize,
-        source: *const u16,
+        source: *const Symbol,
         given: usize,
-        keys: *mut u16,
+        keys: *mut Symbol,
         lent: usize,
     ) -> u64;
 }
 
 extern "C" {
     pub fn kortyghai_upload(
-        q: u16,
+        q: Symbol,
         length: usize,
-        readings: *const u16,
+        readings: *const Symbol,
         read: usize,
-        key: *const u16,
+        key: *const Symbol,
         given: usize,
-        out: *mut u16,
+        out: *mut Symbol,
         lent: usize,
     ) -> u64;
     pub fn kortyghai_unmask(
-        q: u16,
+        q: Symbol,
         length: usize,
-        upload: *const u16,
+        upload: *const Symbol,
         sent: usize,
-        key: *const u16,
+        key: *const Symbol,
         given: usize,
-        out: *mut u16,
+        out: *mut Symbol,
         lent: usize,
     ) -> u64;
 }
@@ -48,43 +50,43 @@ extern "C" {
     pub fn kortyghai_count_frame(
         clusters: usize,
         size: usize,
-        q: u16,
+        q: Symbol,
         length: usize,
         cluster: usize,
         number: u32,
         reported: *mut u16,
-        sums: *mut [u16; 64],
+        sums: *mut [Symbol; 64],
         ahead: *mut u16,
-        held: *mut [u16; 64],
+        held: *mut [Symbol; 64],
         sender: usize,
         said: u32,
-        block: *const u16,
+        block: *const Symbol,
         symbols: usize,
     ) -> u64;
     pub fn kortyghai_advance(
         clusters: usize,
         size: usize,
-        q: u16,
+        q: Symbol,
         length: usize,
         cluster: usize,
         number: *mut u32,
         reported: *mut u16,
-        sums: *mut [u16; 64],
+        sums: *mut [Symbol; 64],
         ahead: *mut u16,
-        held: *mut [u16; 64],
+        held: *mut [Symbol; 64],
     ) -> u64;
     pub fn kortyghai_give_sums(
         clusters: usize,
         size: usize,
-        q: u16,
+        q: Symbol,
         length: usize,
         cluster: usize,
         number: u32,
         reported: u16,
-        sums: *const [u16; 64],
+        sums: *const [Symbol; 64],
         ahead: u16,
-        held: *const [u16; 64],
-        out: *mut u16,
+        held: *const [Symbol; 64],
+        out: *mut Symbol,
         lent: usize,
     ) -> u64;
 }

@@ -25,7 +25,7 @@ impl Refusal {
     pub fn meaning(&self) -> &'static str {
         match self.number {
             1 => "a count is outside its bounds",
-            2 => "q is no prime",
+            2 => "q is no prime, or too small for a wide record",
             3 => "a symbol is not below q",
             4 => "a buffer, table or record has the wrong length",
             5 => "the bytes don't end with a trailer whose record lies in them",

@@ -1,96 +1,33 @@
-//! A second reader and a second vet, written from document 01 alone.
+//! A second vet, written from document 01 alone.
 //!
 //! The leak test takes no ranks of rows. A view is A N + B x, for source symbols N and readings x. The source keys that show a
 //! given view are the solutions of A N = view − B x: where there are some, they are as many as those of A N = 0. So two sets of
-//! readings have equal numbers for every view exactly where A N = B d can be solved for their difference d.
+//! readings have equal numbers for every view exactly where A N = B d can be solved for their difference d. Products are taken
+//! by the two halves of a factor, so that none needs more than 49 bits.
 
-use std::sync::OnceLock;
+use crate::reader::{self, Code, Form, Plan};
+use kortyghai::Symbol;
 
-/// Number and details.
-pub type Code = (u16, u16, u16);
-
-#[derive(Clone, PartialEq, Eq, Debug)]
-pub struct Plan {
-    pub clusters: usize,
-    pub size: usize,
-    pub limit: usize,
-    pub rate: usize,
-    pub q: u16,
-    pub table: Vec<u16>,
-}
-
-/// All primes below 65,536, by crossing out.
-fn primes() -> &'static [bool] {
-    static SIEVE: OnceLock<Vec<bool>> = OnceLock::new();
-    SIEVE.get_or_init(|| {
-        let mut prime = vec![true; 65_536];
-        prime[0] = false;
-        prime[1] = false;
-        for d in 2..256 {
-            if prime[d] {
-                (d * d..65_536).step_by(d).for_each(|m| prime[m] = false);
-            }
-        }
-        prime
-    })
-}
-
-fn word(bytes: &[u8]) -> u16 {
-    u16::from_le_bytes([bytes[0], bytes[1]])
-}
-
-/// The bytes from the record's first one to the trailer, and D.
-fn record(bytes: &[u8]) -> Option<(&[u8], usize)> {
-    let (rest, trailer) = bytes.split_last_chunk::<4>()?;
-    let [low, high, 0x4B, 0x50] = *trailer else { return None };
-    let distance = u16::from_le_bytes([low, high]) as usize;
-    let start = bytes.len().checked_sub(distance)?;
-    (distance >= 10).then(|| (&rest[start..], distance))
-}
-
-/// "Reading a record: 5, 1, 4, 2, 3"; `lent` is how many symbols the lent table has, and `places` how many numbers the lent counts.
-pub fn read(bytes: &[u8], lent: usize, places: usize) -> Result<Plan, Code> {
-    let (body, distance) = record(bytes).ok_or((5, 0, 0))?;
-    let [clusters, size, limit, rate] = [body[0], body[1], body[2], body[3]].map(usize::from);
-    let users = clusters * size;
-    let fits = (1..=8).contains(&clusters) && (1..=8).contains(&size) && users <= 16 && limit <= users && (1..=16).contains(&rate);
-    if !fits {
-        return Err((1, 0, 0));
-    }
-    if distance != 10 + 2 * users * rate || lent != 256 || places != 5 {
-        return Err((4, 0, 0));
-    }
-    let q = word(&body[4..]);
-    if !primes()[q as usize] {
-        return Err((2, 0, 0));
-    }
-    let table: Vec<u16> = body[6..].chunks(2).map(word).collect();
-    if table.iter().any(|&x| x >= q) {
-        return Err((3, 0, 0));
-    }
-    Ok(Plan { clusters, size, limit, rate, q, table })
-}
-
-/// What a program says: "input above 65,535 bytes is 4, before all else", then the reader's, then the vet's.
-pub fn vet_record(bytes: &[u8], leaks: fn(&Plan, usize, usize) -> bool) -> Code {
+/// What a program says: "input above 65,535 bytes is 4, before all else", then the reader's, then the vet's; and the form of the
+/// record, where that was looked at and there is one.
+pub fn vet_record(bytes: &[u8], leaks: fn(&Plan, usize, usize) -> bool) -> (Code, Option<Form>) {
     if bytes.len() > 65_535 {
-        return (4, 0, 0);
+        return ((4, 0, 0), None);
     }
-    match read(bytes, 256, 5) {
-        Err(code) => code,
-        Ok(plan) => vet(&plan, leaks),
-    }
+    let reading = reader::read(bytes, 256, 5);
+    let code = reading.plan.as_ref().map_or_else(|found| found.code(), |plan| vet(plan, leaks));
+    (code, reading.form)
 }
 
 /// 6, then 7, for a plan that was read.
 fn vet(plan: &Plan, leaks: fn(&Plan, usize, usize) -> bool) -> Code {
-    let mut sums = vec![0u32; plan.rate];
+    let mut sums = vec![0u64; plan.rate];
     for row in plan.table.chunks(plan.rate) {
         for (sum, &x) in sums.iter_mut().zip(row) {
-            *sum = (*sum + x as u32) % plan.q as u32;
+            *sum += x as u64;
         }
     }
-    if let Some(column) = sums.iter().position(|&sum| sum != 0) {
+    if let Some(column) = sums.iter().position(|&sum| sum % plan.q as u64 != 0) {
         return (6, column as u16 + 1, 0);
     }
     let coalitions = (0..1usize << (plan.clusters * plan.size)).filter(|g| g.count_ones() as usize <= plan.limit);
@@ -143,6 +80,12 @@ fn hidden(plan: &Plan, coalition: usize, observer: usize, parts: usize) -> Vec<V
     differences
 }
 
+/// The product of two numbers below q, by the halves of the second.
+fn times(a: i64, b: i64, q: i64) -> i64 {
+    let high = a * (b >> 16) % q;
+    ((high << 16) + a * (b & 0xFFFF)) % q
+}
+
 /// The inverse, by Euclid's steps.
 fn inverse(a: i64, q: i64) -> i64 {
     let (mut r, mut s) = ((q, a), (0, 1));
@@ -167,10 +110,10 @@ impl Columns {
             *x = x.rem_euclid(self.q);
         }
         for (place, above) in &self.kept {
-            let times = column[*place];
-            if times != 0 {
+            let by = column[*place];
+            if by != 0 {
                 for (x, a) in column.iter_mut().zip(above) {
-                    *x = (*x - times * a).rem_euclid(self.q);
+                    *x = (*x - times(by, *a, self.q)).rem_euclid(self.q);
                 }
             }
         }
@@ -182,7 +125,7 @@ impl Columns {
         if let Some(place) = column.iter().position(|&x| x != 0) {
             let by = inverse(column[place], self.q);
             for x in &mut column {
-                *x = *x * by % self.q;
+                *x = times(*x, by, self.q);
             }
             self.kept.push((place, column));
         }
@@ -200,25 +143,25 @@ pub fn leaks_by_solving(plan: &Plan, coalition: usize, observer: usize) -> bool 
 }
 
 /// All lists of n symbols.
-fn all(q: u16, n: usize) -> impl Iterator<Item = Vec<u16>> {
-    (0..(q as usize).pow(n as u32)).map(move |m| (0..n).map(|i| (m / (q as usize).pow(i as u32) % q as usize) as u16).collect())
+fn all(q: Symbol, n: usize) -> impl Iterator<Item = Vec<Symbol>> {
+    (0..(q as usize).pow(n as u32)).map(move |m| (0..n).map(|i| (m / (q as usize).pow(i as u32) % q as usize) as Symbol).collect())
 }
 
 /// The same by counting, for plans of very few readings and source keys, with blocks of one position: all readings, all source
 /// keys, all views, as document 01 has it.
 pub fn leaks_by_counting(plan: &Plan, coalition: usize, observer: usize) -> bool {
-    let q = plan.q as u32;
+    let q = plan.q;
     let users = plan.clusters * plan.size;
     let keys: Vec<Vec<u32>> = all(plan.q, plan.rate)
-        .map(|n| plan.table.chunks(plan.rate).map(|row| row.iter().zip(&n).map(|(&a, &b)| a as u32 * b as u32).sum::<u32>() % q).collect())
+        .map(|n| plan.table.chunks(plan.rate).map(|row| row.iter().zip(&n).map(|(&a, &b)| a * b).sum::<u32>() % q).collect())
         .collect();
     let mut seen: std::collections::HashMap<Vec<u32>, Vec<Vec<u32>>> = Default::default();
     for readings in all(plan.q, users) {
         let mut views: Vec<Vec<u32>> = keys.iter().map(|key| view(plan, coalition, observer, &readings, key)).collect();
         views.sort();
-        let mut known: Vec<u32> = (0..users).filter(|&i| inside(coalition, i)).map(|i| readings[i] as u32).collect();
+        let mut known: Vec<u32> = (0..users).filter(|&i| inside(coalition, i)).map(|i| readings[i]).collect();
         if observer == 0 {
-            known.push(readings.iter().map(|&x| x as u32).sum::<u32>() % q);
+            known.push(readings.iter().sum::<u32>() % q);
         }
         if *seen.entry(known).or_insert_with(|| views.clone()) != views {
             return true;
@@ -228,9 +171,9 @@ pub fn leaks_by_counting(plan: &Plan, coalition: usize, observer: usize) -> bool
 }
 
 /// What the observer sees: uploads or sums, and the coalition's keys. (Its readings are the same in all that are compared.)
-fn view(plan: &Plan, coalition: usize, observer: usize, readings: &[u16], key: &[u32]) -> Vec<u32> {
-    let q = plan.q as u32;
-    let uploads: Vec<u32> = readings.iter().zip(key).map(|(&x, k)| (x as u32 + k) % q).collect();
+fn view(plan: &Plan, coalition: usize, observer: usize, readings: &[Symbol], key: &[u32]) -> Vec<u32> {
+    let q = plan.q;
+    let uploads: Vec<u32> = readings.iter().zip(key).map(|(&x, k)| (x + k) % q).collect();
     let mut view: Vec<u32> = if observer > 0 {
         uploads[(observer - 1) * plan.size..observer * plan.size].to_vec()
     } else {

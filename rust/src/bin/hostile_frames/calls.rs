@@ -1,10 +1,14 @@
 //! The archive's three calls on a round, and the same by the safe crate. Every lent place stands between marks.
 
 use crate::states::Frame;
-use kortyghai::{raw, RelayRound, Refusal};
+use kortyghai::{raw, Refusal, RelayRound, Symbol};
 
 /// What stands around the lent places.
-const MARK: [u16; 8] = [0xABCD; 8];
+const MARK: u16 = 0xABCD;
+const MARKS: [u16; 8] = [MARK; 8];
+
+/// What a buffer for sums holds before a call.
+const UNWRITTEN: Symbol = 0xABCD_ABCD;
 
 /// What a call answered and left.
 #[derive(PartialEq)]
@@ -13,51 +17,56 @@ pub struct Left {
     pub answer: u64,
     pub round: RelayRound,
     /// The buffer that was lent for sums, with a mark before and behind it.
-    pub out: Vec<u16>,
+    pub out: Vec<Symbol>,
     /// Whether only the lent places were written.
     pub clean: bool,
 }
 
 /// A buffer for so many sums, with a mark before and behind it.
-pub fn marked(room: usize) -> Vec<u16> {
-    vec![MARK[0]; room + 2]
+pub fn marked(room: usize) -> Vec<Symbol> {
+    vec![UNWRITTEN; room + 2]
 }
 
-/// The lent places of a round, and others around them that are not lent.
+/// The lent places of a round, and others around them that are not lent. Beside a roll stand nine marks, so that no place is
+/// without one.
 #[repr(C)]
 struct Lent {
     front: [u16; 8],
     number: u32,
     marks: [[u16; 8]; 2],
     reported: u16,
-    more: [u16; 8],
-    sums: [u16; 64],
+    more: [u16; 9],
+    sums: [Symbol; 64],
     between: [u16; 8],
     ahead: u16,
-    others: [u16; 8],
-    held: [u16; 64],
+    others: [u16; 9],
+    held: [Symbol; 64],
     behind: [u16; 8],
 }
+
+/// The places and marks one by one: nothing stands between them.
+const _: () = assert!(size_of::<Lent>() == size_of::<(u32, [Symbol; 128])>() + 2 * 2 + 2 * (5 * 8 + 2 * 9));
 
 impl Lent {
     fn of(round: &RelayRound) -> Lent {
         Lent {
-            front: MARK,
+            front: MARKS,
             number: round.number,
-            marks: [MARK; 2],
+            marks: [MARKS; 2],
             reported: round.reported,
-            more: MARK,
+            more: [MARK; 9],
             sums: round.sums,
-            between: MARK,
+            between: MARKS,
             ahead: round.ahead,
-            others: MARK,
+            others: [MARK; 9],
             held: round.held,
-            behind: MARK,
+            behind: MARKS,
         }
     }
 
     fn left(&self, round: &RelayRound, answer: u64) -> Left {
-        let clean = [self.front, self.marks[0], self.marks[1], self.more, self.between, self.others, self.behind] == [MARK; 7];
+        let clean = [self.front, self.marks[0], self.marks[1], self.between, self.behind] == [MARKS; 5]
+            && [self.more, self.others] == [[MARK; 9]; 2];
         let (number, reported, sums, ahead, held) = (self.number, self.reported, self.sums, self.ahead, self.held);
         Left { answer, round: RelayRound { number, reported, sums, ahead, held, ..round.clone() }, out: Vec::new(), clean }
     }

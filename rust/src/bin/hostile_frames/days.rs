@@ -5,7 +5,7 @@ use crate::model::{total, Book};
 use crate::seeded::Seeded;
 use crate::states::{self, Frame, DAMAGES, LAST, OF_ROUND};
 use crate::tally::{Call, Kind};
-use kortyghai::RelayRound;
+use kortyghai::{RelayRound, Symbol};
 
 /// What happens in a day, with the call that it is about and its share.
 #[derive(Clone, Copy)]
@@ -82,7 +82,7 @@ impl Day {
         self.round.number.checked_add(1)
     }
 
-    fn block(&self, s: &mut Seeded) -> Vec<u16> {
+    fn block(&self, s: &mut Seeded) -> Vec<Symbol> {
         states::block(s, self.round.q, self.round.length)
     }
 
@@ -145,7 +145,7 @@ impl Day {
     }
 
     /// The sums of round `number`: of what was handed in for it, and of the frames counted that have its number.
-    fn sorted(&self, number: u32) -> [u16; 64] {
+    fn sorted(&self, number: u32) -> [Symbol; 64] {
         let counted = self.counted.iter().filter(|frame| frame.said == number).map(|frame| &frame.block[..]);
         let own = Some(&self.first.sums[..]).filter(|_| number == self.first.number);
         let ahead = Some(&self.first.held[..]).filter(|_| self.first.number.checked_add(1) == Some(number));

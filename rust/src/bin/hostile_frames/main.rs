@@ -12,16 +12,16 @@ mod states;
 mod tally;
 
 use days::Days;
-use kortyghai::RelayRound;
+use kortyghai::{RelayRound, Symbol};
 use seeded::Seeded;
 use states::{Case, Frame, DAMAGES, LAST, OF_ROUND};
 use std::time::Instant;
 use tally::{Call, Kind, CALLS, NUMBERS};
 
-/// Every q that 16 bits hold.
+/// Every q that 16 bits hold, and many next to them and at the end of 32.
 fn every_q(s: &mut Seeded) -> Kind {
-    let mut kind = Kind::named("every q");
-    for q in 0..=u16::MAX {
+    let mut kind = Kind::named("every q to 67,583 and near 2^32");
+    for q in (0..67_584).chain(Symbol::MAX - 2_047..=Symbol::MAX) {
         let (mut round, mut frame) = states::good(s);
         (round.sums, round.held) = (states::row(s, q, round.length), states::row(s, q, round.length));
         round.q = q;
@@ -106,14 +106,14 @@ fn every_length(s: &mut Seeded) -> Kind {
     kind
 }
 
-/// At every position, a sum, or a held one, and a symbol of the block near 0, q and the end of 16 bits.
+/// At every position, a sum, or a held one, and a symbol of the block near 0, q and the end of 32 bits.
 fn every_position(s: &mut Seeded) -> Kind {
     let mut kind = Kind::named("every position, symbols near q");
     for (position, early) in (0..64).flat_map(|position| [(position, false), (position, true)]) {
         for (a, b) in (0..6).flat_map(|a| (0..6).map(move |b| (a, b))) {
             let (mut round, mut frame) = states::good(s);
             let q = round.q;
-            let ends = [0, 1, q - 1, q, q + 1, u16::MAX];
+            let ends = [0, 1, q - 1, q, q + 1, Symbol::MAX];
             *if early { &mut round.held[position] } else { &mut round.sums[position] } = ends[a];
             frame.block[position % round.length] = ends[b];
             kind.attempt(&round, &frame, None, None);
@@ -201,6 +201,7 @@ fn tell(kinds: &[Kind], days: &Days) -> Kind {
         all.name = name.to_string();
         println!("{}", all.line(call));
     }
+    println!("{} of these calls were on a round with q of 65,536 or more", all.wide);
     println!("each round of a day that was moved on from had the sums of the frames counted, sorted by round");
     all
 }

@@ -1,11 +1,12 @@
 //! A second relay, written from documents 01 and 02 alone. It is a book: a list of what was counted, each entry with the number of
 //! its round; rolls and sums are added up afresh from the entries of a round whenever they are wanted. Nothing is ever taken from
 //! the list, and moving on turns a page. Round numbers are wider than a frame's, so that r + 1 is always a number. It adds whole
-//! numbers and then reduces them, and knows a prime by its having two divisors.
+//! numbers and then reduces them, and knows a prime by its having no divisor but 1 up to its root.
 
 use crate::states::Frame;
-use kortyghai::RelayRound;
-use std::sync::OnceLock;
+use kortyghai::{RelayRound, Symbol};
+use std::collections::HashMap;
+use std::sync::Mutex;
 
 /// "After round 4,294,967,295 there is no next."
 const LAST: u64 = 4_294_967_295;
@@ -14,7 +15,7 @@ const LAST: u64 = 4_294_967_295;
 struct Entry {
     round: u64,
     names: Vec<usize>,
-    block: Vec<u16>,
+    block: Vec<Symbol>,
 }
 
 /// A relay whose state was handed in, and what was counted since.
@@ -26,16 +27,11 @@ pub struct Book {
     entries: Vec<Entry>,
 }
 
-/// How many divisors each number below 65,536 has.
-fn divisors() -> &'static [u16] {
-    static COUNTED: OnceLock<Vec<u16>> = OnceLock::new();
-    COUNTED.get_or_init(|| {
-        let mut counted = vec![0; 65_536];
-        for d in 1..65_536 {
-            (d..65_536).step_by(d).for_each(|m| counted[m] += 1);
-        }
-        counted
-    })
+/// Has q, of all numbers up to its root, the divisor 1 alone? Each q is looked at once, as the same few come often.
+fn is_prime(q: Symbol) -> bool {
+    static KNOWN: Mutex<Option<HashMap<Symbol, bool>>> = Mutex::new(None);
+    let divisors = || (1..=q.isqrt()).filter(|d| q % d == 0).take(2).count();
+    *KNOWN.lock().unwrap().get_or_insert_default().entry(q).or_insert_with(|| q != 1 && divisors() == 1)
 }
 
 /// Who has reported. Of a sender, "its bit in the roll is that number less 1".
@@ -54,11 +50,11 @@ fn of_state(round: &RelayRound) -> Result<(), u16> {
     let users = round.clusters as u128 * round.size as u128;
     let counts = (1..=8).contains(&round.clusters) && (1..=8).contains(&round.size) && users <= 16;
     let senders = [round.reported, round.ahead].map(names).concat().iter().all(|name| (1..=round.size).contains(name));
-    let fits = |(i, &x): (usize, &u16)| if i < round.length { x < round.q } else { x == 0 };
+    let fits = |(i, &x): (usize, &Symbol)| if i < round.length { x < round.q } else { x == 0 };
     let sums = [&round.sums, &round.held].iter().all(|row| row.iter().enumerate().all(fits));
     refused(&[
         (1, !counts),
-        (2, divisors()[round.q as usize] != 2),
+        (2, !is_prime(round.q)),
         (9, round.length == 0 || round.length > 64),
         (8, !(1..=round.clusters).contains(&round.cluster) || !senders),
         (3, !sums),
@@ -88,9 +84,9 @@ impl Book {
     }
 
     /// The roll and the sums of a round, from its entries alone.
-    fn added_up(&self, round: u64) -> (u16, [u16; 64]) {
+    fn added_up(&self, round: u64) -> (u16, [Symbol; 64]) {
         let roll = self.page(round).flat_map(|entry| &entry.names).map(|name| 2_u16.pow(*name as u32 - 1)).sum();
-        let blocks: Vec<&[u16]> = self.page(round).map(|entry| &entry.block[..]).collect();
+        let blocks: Vec<&[Symbol]> = self.page(round).map(|entry| &entry.block[..]).collect();
         (roll, total(self.given.q, &blocks))
     }
 
@@ -127,7 +123,7 @@ impl Book {
     }
 
     /// The sums that are given into a buffer with room for so many. "Giving sums: 12, 4."
-    pub fn give(&self, room: usize) -> Result<Vec<u16>, u16> {
+    pub fn give(&self, room: usize) -> Result<Vec<Symbol>, u16> {
         self.wrong?;
         refused(&[(12, !self.is_full()), (4, room != self.given.length)])?;
         Ok(self.added_up(self.round).1[..room].to_vec())
@@ -135,12 +131,12 @@ impl Book {
 }
 
 /// Blocks added up, position by position: first whole, then modulo q.
-pub fn total(q: u16, blocks: &[&[u16]]) -> [u16; 64] {
+pub fn total(q: Symbol, blocks: &[&[Symbol]]) -> [Symbol; 64] {
     let mut whole = [0_u64; 64];
     for block in blocks {
         block.iter().zip(&mut whole).for_each(|(&x, sum)| *sum += x as u64);
     }
-    whole.map(|sum| (sum % q as u64) as u16)
+    whole.map(|sum| (sum % q as u64) as Symbol)
 }
 
 #[cfg(test)]
@@ -152,7 +148,7 @@ mod tests {
         RelayRound { clusters: 2, size: 2, q: 5, length: 1, cluster: 1, number: 9, reported: 1, sums, ahead: 0, held: [0; 64] }
     }
 
-    fn hear(book: &mut Book, sender: usize, said: u32, block: &[u16]) -> Result<(), u16> {
+    fn hear(book: &mut Book, sender: usize, said: u32, block: &[Symbol]) -> Result<(), u16> {
         book.hear(&Frame { sender, said, block: block.to_vec() })
     }
 
@@ -179,6 +175,12 @@ mod tests {
         assert_eq!([hear(&mut book, 1, 0, &[1]), book.move_on()], [Err(14), Err(14)]);
         assert_eq!([hear(&mut book, 1, u32::MAX, &[1]), book.move_on()], [Ok(()), Err(14)]);
         assert_eq!(book.give(1), Ok(vec![2]));
+    }
+
+    #[test]
+    fn the_book_knows_primes() {
+        assert!([2, 3, 5, 65_521, 65_537, 4_294_967_291].into_iter().all(is_prime));
+        assert!(![0, 1, 4, 9, 65_536, 65_541, 12_327_121, 4_293_001_441, 4_294_967_295].into_iter().any(is_prime));
     }
 
     #[test]

@@ -1,13 +1,13 @@
 //! Seeded rounds and frames, and what damage makes of them.
 
 use crate::seeded::Seeded;
-use kortyghai::RelayRound;
+use kortyghai::{RelayRound, Symbol};
 
 #[derive(Clone)]
 pub struct Frame {
     pub sender: usize,
     pub said: u32,
-    pub block: Vec<u16>,
+    pub block: Vec<Symbol>,
 }
 
 pub type Case = (RelayRound, Frame);
@@ -15,24 +15,27 @@ pub type Case = (RelayRound, Frame);
 /// The last round's number.
 pub const LAST: u32 = u32::MAX;
 
-/// Small and large primes, and those around which two symbols stop fitting into 16 bits when added.
-pub const PRIMES: [u16; 11] = [2, 3, 5, 7, 11, 251, 257, 32_749, 32_771, 65_519, 65_521];
+/// Small and large primes, and those around which a symbol stops fitting into 16 bits, and two into 16 or 32 when added.
+pub const PRIMES: [Symbol; 18] = [
+    2, 3, 5, 7, 11, 251, 257, 32_749, 32_771, 65_519, 65_521, 65_537, 65_539, 2_147_483_629, 2_147_483_647, 2_147_483_659, 4_294_967_279,
+    4_294_967_291,
+];
 
 /// A symbol below q, often at an end. Where q is 0, it is 0.
-pub fn symbol(s: &mut Seeded, q: u16) -> u16 {
+pub fn symbol(s: &mut Seeded, q: Symbol) -> Symbol {
     let q = q.max(1);
     match s.below(4) {
         0 => s.one_of(&[0, q - 1]),
-        _ => s.below(q as usize) as u16,
+        _ => s.below(q as usize) as Symbol,
     }
 }
 
-pub fn block(s: &mut Seeded, q: u16, length: usize) -> Vec<u16> {
+pub fn block(s: &mut Seeded, q: Symbol, length: usize) -> Vec<Symbol> {
     (0..length).map(|_| symbol(s, q)).collect()
 }
 
 /// A row of 64 sums, of which the first `length` are symbols.
-pub fn row(s: &mut Seeded, q: u16, length: usize) -> [u16; 64] {
+pub fn row(s: &mut Seeded, q: Symbol, length: usize) -> [Symbol; 64] {
     let mut row = [0; 64];
     row[..length].copy_from_slice(&block(s, q, length));
     row
@@ -98,10 +101,10 @@ fn huge(s: &mut Seeded, n: usize) -> usize {
     s.one_of(&[n + (1 << 8), n + (1 << 16), n + (1 << 32), n + (1 << 63), 1 << 32, 1 << 63, usize::MAX - 1, usize::MAX])
 }
 
-/// A symbol that is not below q.
-fn too_large(s: &mut Seeded, q: u16) -> u16 {
-    let more = s.below(65_536 - q as usize) as u16;
-    s.one_of(&[q, q.saturating_add(1), q + more, u16::MAX])
+/// A number that is not below q; at times its low 16 bits are.
+fn too_large(s: &mut Seeded, q: Symbol) -> Symbol {
+    let more = s.below(Symbol::MAX as usize + 1 - q as usize) as Symbol;
+    s.one_of(&[q, q.saturating_add(1), q + more, q.max(65_536), Symbol::MAX])
 }
 
 fn counts(s: &mut Seeded, (round, _): &mut Case) {
@@ -118,8 +121,11 @@ fn counts(s: &mut Seeded, (round, _): &mut Case) {
 }
 
 fn no_prime(s: &mut Seeded, (round, _): &mut Case) {
-    let even = 4 + 2 * s.below(32_766) as u16;
-    round.q = s.one_of(&[0, 1, 4, 6, 9, 15, 25, 49, 121, 255, 32_767, 63_001, 64_507, 65_025, 65_533, 65_535, even, even]);
+    let (even, large) = (4 + 2 * s.below(32_766) as Symbol, 65_536 + 2 * s.below(2_147_450_880) as Symbol);
+    let small = s.one_of(&[0, 1, 4, 6, 9, 15, 25, 49, 121, 255, 32_767, 63_001, 64_507, 65_025, 65_533, 65_535, even, even]);
+    // one whose low 16 bits are 5, a square, others that pass Fermat's test with 2, and the largest
+    let wide = s.one_of(&[65_541, 4_293_001_441, 12_327_121, 3_215_031_751, 4_294_967_293, 4_294_967_295, large, large]);
+    round.q = s.one_of(&[small, small, wide]);
 }
 
 fn length(s: &mut Seeded, (round, _): &mut Case) {
@@ -147,7 +153,7 @@ fn no_senders_bit_ahead(s: &mut Seeded, (round, _): &mut Case) {
     round.ahead |= no_senders(s, round.size);
 }
 
-fn too_large_in(s: &mut Seeded, q: u16, symbols: &mut [u16]) {
+fn too_large_in(s: &mut Seeded, q: Symbol, symbols: &mut [Symbol]) {
     for _ in 0..s.one_of(&[1, 1, 3]) {
         let last = symbols.len() - 1;
         let any = s.below(symbols.len());
@@ -164,11 +170,11 @@ fn held_too_large(s: &mut Seeded, (round, _): &mut Case) {
 }
 
 /// Does nothing where no sum stands past the others.
-fn past_in(s: &mut Seeded, q: u16, length: usize, row: &mut [u16; 64]) {
+fn past_in(s: &mut Seeded, q: Symbol, length: usize, row: &mut [Symbol; 64]) {
     if length < 64 {
         let any = length + s.below(64 - length);
         let large = too_large(s, q);
-        row[s.one_of(&[length, any, any, 63])] = s.one_of(&[1, q - 1, large]);
+        row[s.one_of(&[length, any, any, 63])] = s.one_of(&[1, q - 1, large, 65_536]);
     }
 }
 
@@ -261,17 +267,17 @@ pub fn damaged(s: &mut Seeded, set: usize) -> (Case, u16) {
 }
 
 /// Up to three small numbers in the first places of a row.
-fn small_row(s: &mut Seeded) -> [u16; 64] {
+fn small_row(s: &mut Seeded) -> [Symbol; 64] {
     let mut row = [0; 64];
     for _ in 0..s.below(4) {
-        row[s.below(4)] = s.below(7) as u16;
+        row[s.below(4)] = s.below(7) as Symbol;
     }
     row
 }
 
 /// Small numbers by chance in all places, near the bounds or inside them. The rounds' numbers are at either end.
 pub fn by_chance(s: &mut Seeded) -> Case {
-    let q = s.one_of(&[0, 1, 2, 3, 3, 4, 5, 5, 7, 7, 9, 65_521]);
+    let q = s.one_of(&[0, 1, 2, 3, 3, 4, 5, 5, 7, 7, 9, 65_521, 65_537, 4_294_967_291]);
     let length = s.one_of(&[0, 1, 1, 2, 2, 3, 3, 63, 64, 65]);
     let (sums, held) = (small_row(s), if s.below(2) == 0 { [0; 64] } else { small_row(s) });
     let (reported, ahead) = (s.next() as u16 & s.one_of(&[0, 1, 3, 3, 7, 15, 255]), s.next() as u16 & s.one_of(&[0, 0, 1, 3, 15]));
@@ -280,6 +286,6 @@ pub fn by_chance(s: &mut Seeded) -> Case {
     let number = s.one_of(&numbers);
     let round = RelayRound { clusters, size, q, length, cluster, number, reported, sums, ahead, held };
     let given = if s.below(4) > 0 { length } else { s.below(5) };
-    let block = (0..given).map(|_| if s.below(8) > 0 { symbol(s, q) } else { s.below(8) as u16 }).collect();
+    let block = (0..given).map(|_| if s.below(8) > 0 { symbol(s, q) } else { s.below(8) as Symbol }).collect();
     (round, Frame { sender: s.below(6), said: s.one_of(&numbers), block })
 }

@@ -24,6 +24,8 @@ pub struct Kind {
     /// The call that the kind is about.
     pub about: Call,
     pub numbers: [[usize; 15]; 3],
+    /// Of all calls, those on a round with a q that 16 bits don't hold.
+    pub wide: usize,
     pub differ: usize,
 }
 
@@ -33,7 +35,7 @@ impl Kind {
     }
 
     pub fn about(about: Call, name: &str) -> Kind {
-        Kind { name: name.to_string(), about, numbers: [[0; 15]; 3], differ: 0 }
+        Kind { name: name.to_string(), about, numbers: [[0; 15]; 3], wide: 0, differ: 0 }
     }
 
     pub fn tried(&self, call: Call) -> usize {
@@ -44,6 +46,7 @@ impl Kind {
     /// it is known beforehand.
     fn compare(&mut self, call: Call, left: [&Left; 2], wanted: &Left, expected: Option<u16>, what: impl Fn() -> String) {
         self.numbers[call as usize][wanted.answer as usize] += 1;
+        self.wide += (wanted.round.q >= 65_536) as usize;
         let known = expected.map_or(true, |number| number as u64 == wanted.answer);
         if left != [wanted; 2] || !known {
             let same = left.iter().all(|left| left.round == wanted.round && left.out == wanted.out && left.clean);
@@ -122,6 +125,7 @@ impl Kind {
         for (ours, theirs) in self.numbers.iter_mut().flatten().zip(other.numbers.iter().flatten()) {
             *ours += theirs;
         }
+        self.wide += other.wide;
         self.differ += other.differ;
     }
 }
