@@ -4,16 +4,16 @@ use crate::{plain, proved, Code, Plan};
 use std::fs;
 use std::path::Path;
 
-/// Document 01: "A plan record".
+/// Document 01: "A plan record"; and document 02: "A plan with q of 65,536 or more has a wide record".
 fn record(plan: &Plan) -> Vec<u8> {
+    let (width, mark) = if plan.q < 65_536 { (2, 0x50) } else { (4, 0x51) };
     let mut bytes = vec![plan.clusters as u8, plan.size as u8, plan.limit as u8, plan.rate as u8];
-    bytes.extend(plan.q.to_le_bytes());
-    for symbol in &plan.table {
-        bytes.extend(symbol.to_le_bytes());
+    for number in [plan.q].iter().chain(&plan.table) {
+        bytes.extend(&number.to_le_bytes()[..width]);
     }
     let distance = bytes.len() as u16 + 4;
     bytes.extend(distance.to_le_bytes());
-    bytes.extend([0x4B, 0x50]);
+    bytes.extend([0x4B, mark]);
     bytes
 }
 
@@ -32,8 +32,9 @@ fn named() -> Vec<(String, Plan, Code)> {
         ("not-zero-sum".to_string(), unequal, Code(6, 3, 0)),
     ];
     for (u, v, t) in [(8, 2, 13), (4, 4, 11), (2, 8, 7), (4, 4, 6), (8, 2, 1)] {
-        all.push((format!("made-{u}-{v}-{t}"), Plan::made(u, v, t, 65521, 2), Code(0, 0, 0)));
+        all.push((format!("made-{u}-{v}-{t}"), Plan::made(u, v, t, 65_521, 2), Code(0, 0, 0)));
     }
+    all.push(("wide".to_string(), Plan::made(2, 2, 1, 4_294_967_291, 65_536), Code(0, 0, 0)));
     all
 }
 

@@ -1,12 +1,21 @@
-//! Compares the proved functions with plain ones on seeded inputs, and times them. `compare` and `speed` do one of the two;
-//! `examples FOLDER` writes the record files of examples/.
+//! Compares the proved functions with plain ones on seeded inputs, and times them. `compare` does the first, `speed` the second, and
+//! `primes` times the test for primes; without a word all three are done. `every_number [FROM TO]` compares that test with a sieve, on
+//! all numbers of 32 bits or on those from FROM up to TO, which is left out. `examples FOLDER` writes the record files of examples/.
 
+mod every_number;
 mod examples;
 mod plain;
+mod primes;
 mod proved;
 mod rounds;
 mod speed;
 mod tally;
+
+/// A whole number below a plan's prime q, and q itself.
+pub type Symbol = u32;
+
+/// The primes at whose plans times are taken: the largest of a record's old form, and the largest of 32 bits.
+pub const LARGE_PRIMES: [Symbol; 2] = [65_521, 4_294_967_291];
 
 /// A number and two details, as the program prints them.
 #[derive(Clone, Copy, PartialEq, Eq, Debug)]
@@ -18,13 +27,13 @@ pub struct Plan {
     pub size: usize,
     pub limit: usize,
     pub rate: usize,
-    pub q: u16,
-    pub table: Vec<u16>,
+    pub q: Symbol,
+    pub table: Vec<Symbol>,
 }
 
 impl Plan {
     /// The plan that the maker's formula gives, vetted or not.
-    pub fn made(clusters: usize, size: usize, limit: usize, q: u16, gamma: u16) -> Plan {
+    pub fn made(clusters: usize, size: usize, limit: usize, q: Symbol, gamma: Symbol) -> Plan {
         let rate = plain::rate_of(clusters, size, limit);
         let table = plain::made_table(clusters, size, limit, q, gamma);
         Plan { clusters, size, limit, rate, q, table }
@@ -32,14 +41,22 @@ impl Plan {
 }
 
 fn main() {
-    let word = std::env::args().nth(1).unwrap_or_default();
-    if word == "examples" {
-        let folder = std::env::args().nth(2).expect("the folder to write in");
-        return examples::write(folder.as_ref());
-    }
-    let differ = if word == "speed" { 0 } else { tally::compare() };
-    let met = if word == "compare" { true } else { speed::measure() & rounds::measure() };
-    if differ > 0 || !met {
+    let words: Vec<String> = std::env::args().skip(1).collect();
+    let words: Vec<&str> = words.iter().map(String::as_str).collect();
+    let right = match words[..] {
+        [] => (tally::compare() == 0) & speed::measure() & rounds::measure() & primes::measure(),
+        ["compare"] => tally::compare() == 0,
+        ["speed"] => speed::measure() & rounds::measure(),
+        ["primes"] => primes::measure(),
+        ["every_number"] => every_number::compare(0, 1 << 32) == 0,
+        ["every_number", from, to] => every_number::compare(every_number::bound(from), every_number::bound(to)) == 0,
+        ["examples", folder] => {
+            examples::write(folder.as_ref());
+            true
+        }
+        _ => panic!("compare, speed, primes, every_number [FROM TO], examples FOLDER, or nothing"),
+    };
+    if !right {
         std::process::exit(1);
     }
 }

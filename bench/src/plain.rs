@@ -1,10 +1,7 @@
 //! A second vet, in plain Rust, written from document 01 alone: every coalition is eliminated anew, and every observer's rows are pushed on top of it.
 
-use crate::{Code, Plan};
-
-fn is_prime(q: u64) -> bool {
-    q >= 2 && (2..q).take_while(|d| d * d <= q).all(|d| q % d != 0)
-}
+use crate::primes::is_prime;
+use crate::{Code, Plan, Symbol};
 
 fn power(q: u64, mut base: u64, mut exponent: u64) -> u64 {
     let mut result = 1 % q;
@@ -115,7 +112,7 @@ pub fn vet(plan: &Plan) -> Code {
     if plan.table.len() != u * v * plan.rate {
         return Code(4, 0, 0);
     }
-    if !is_prime(plan.q as u64) {
+    if !is_prime(plan.q) {
         return Code(2, 0, 0);
     }
     if plan.table.iter().any(|&x| x >= plan.q) {
@@ -139,29 +136,29 @@ pub fn rate_of(clusters: usize, size: usize, limit: usize) -> usize {
 }
 
 /// The maker's table, by document 01's formula, for counts within their bounds and a prime q.
-pub fn made_table(clusters: usize, size: usize, limit: usize, q: u16, gamma: u16) -> Vec<u16> {
+pub fn made_table(clusters: usize, size: usize, limit: usize, q: Symbol, gamma: Symbol) -> Vec<Symbol> {
     let (n, r, m) = (clusters * size, rate_of(clusters, size, limit), q as u64);
-    let mut table = vec![0u16; n * r];
+    let mut table = vec![0 as Symbol; n * r];
     for i in 0..n - 1 {
         let base = if i == 0 { 0 } else { power(m, gamma as u64, i as u64) };
         for k in 0..r {
-            table[i * r + k] = if k == 0 { 1 % q } else { power(m, base, k as u64) as u16 };
+            table[i * r + k] = if k == 0 { 1 % q } else { power(m, base, k as u64) as Symbol };
         }
     }
     for k in 0..r {
         let sum: u64 = (0..n - 1).map(|i| table[i * r + k] as u64).sum();
-        table[(n - 1) * r + k] = ((m - sum % m) % m) as u16;
+        table[(n - 1) * r + k] = ((m - sum % m) % m) as Symbol;
     }
     table
 }
 
 /// The maker: "1, 2, 3, 10, 4, 7". `out` is how many symbols are lent.
-pub fn make(clusters: usize, size: usize, limit: usize, q: u16, gamma: u16, out: usize) -> (Code, Vec<u16>) {
+pub fn make(clusters: usize, size: usize, limit: usize, q: Symbol, gamma: Symbol, out: usize) -> (Code, Vec<Symbol>) {
     let none = Vec::new();
     if !(1..=8).contains(&clusters) || !(1..=8).contains(&size) || clusters * size > 16 || limit > clusters * size {
         return (Code(1, 0, 0), none);
     }
-    if !is_prime(q as u64) {
+    if !is_prime(q) {
         return (Code(2, 0, 0), none);
     }
     if gamma >= q {
@@ -182,7 +179,7 @@ pub fn make(clusters: usize, size: usize, limit: usize, q: u16, gamma: u16, out:
 }
 
 /// Individual keys: "the vet's, then 9, 4 for any block, 3".
-pub fn derive(plan: &Plan, length: usize, source: &[u16], out: usize) -> (Code, Vec<u16>) {
+pub fn derive(plan: &Plan, length: usize, source: &[Symbol], out: usize) -> (Code, Vec<Symbol>) {
     let none = Vec::new();
     let code = vet(plan);
     if code != Code(0, 0, 0) {
@@ -201,8 +198,9 @@ pub fn derive(plan: &Plan, length: usize, source: &[u16], out: usize) -> (Code, 
     let mut keys = Vec::new();
     for i in 0..users {
         for position in source.chunks(plan.rate) {
-            let sum: u64 = row(plan, i).iter().zip(position).map(|(&a, &b)| a * b as u64).sum();
-            keys.push((sum % plan.q as u64) as u16);
+            // sixteen products of 64 bits
+            let sum: u128 = row(plan, i).iter().zip(position).map(|(&a, &b)| a as u128 * b as u128).sum();
+            keys.push((sum % plan.q as u128) as Symbol);
         }
     }
     (Code(0, 0, 0), keys)

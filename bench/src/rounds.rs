@@ -1,8 +1,9 @@
 //! Uploads, frames and keys in plain Rust, with the same checks and sums, and their times beside those of the proved ones.
 
+use crate::primes::is_prime;
 use crate::speed::processor_time;
-use crate::tally::Seeded;
-use crate::{proved, Code, Plan};
+use crate::tally::{Seeded, NO_PRIMES, PRIMES};
+use crate::{proved, Code, Plan, Symbol, LARGE_PRIMES};
 use std::hint::black_box;
 
 /// What the proved functions may take, of the plain ones' time.
@@ -13,50 +14,34 @@ const BAR: f64 = 1.2;
 pub struct Relay {
     pub clusters: usize,
     pub size: usize,
-    pub q: u16,
+    pub q: Symbol,
     pub length: usize,
     pub cluster: usize,
     pub number: u32,
     pub reported: u16,
-    pub sums: [u16; 64],
+    pub sums: [Symbol; 64],
     pub ahead: u16,
-    pub held: [u16; 64],
+    pub held: [Symbol; 64],
 }
 
 impl Relay {
-    pub fn open(clusters: usize, size: usize, q: u16, length: usize) -> Relay {
+    pub fn open(clusters: usize, size: usize, q: Symbol, length: usize) -> Relay {
         Relay { clusters, size, q, length, cluster: 1, number: 7, reported: 0, sums: [0; 64], ahead: 0, held: [0; 64] }
     }
 }
 
-/// By 2, then by odd numbers up to the root.
-fn is_prime(q: u16) -> bool {
-    if q < 2 || q % 2 == 0 {
-        return q == 2;
-    }
-    let n = q as u32;
-    let mut d = 3;
-    while d * d <= n {
-        if n % d == 0 {
-            return false;
-        }
-        d += 2;
-    }
-    true
-}
-
-fn all_below(q: u16, symbols: &[u16]) -> bool {
+fn all_below(q: Symbol, symbols: &[Symbol]) -> bool {
     symbols.iter().all(|&x| x < q)
 }
 
-fn add(q: u16, a: u16, b: u16) -> u16 {
-    let sum = a as u32 + b as u32;
-    (if sum >= q as u32 { sum - q as u32 } else { sum }) as u16
+fn add(q: Symbol, a: Symbol, b: Symbol) -> Symbol {
+    let sum = a as u64 + b as u64;
+    (if sum >= q as u64 { sum - q as u64 } else { sum }) as Symbol
 }
 
-/// "Upload, and taking a key off: 2, 9, 4, 3."
-fn block_code(q: u16, length: usize, a: &[u16], b: &[u16], out: &[u16]) -> u16 {
-    if !is_prime(q) {
+/// "Upload, and taking a key off: 2, 9, 4, 3." With such a test for primes.
+pub fn block_code(test: impl Fn(Symbol) -> bool, q: Symbol, length: usize, a: &[Symbol], b: &[Symbol], out: &[Symbol]) -> u16 {
+    if !test(q) {
         return 2;
     }
     if !(1..=64).contains(&length) {
@@ -72,8 +57,8 @@ fn block_code(q: u16, length: usize, a: &[u16], b: &[u16], out: &[u16]) -> u16 {
 }
 
 #[inline(never)]
-pub fn upload(q: u16, length: usize, readings: &[u16], key: &[u16], out: &mut [u16]) -> Code {
-    let code = block_code(q, length, readings, key, out);
+pub fn upload(q: Symbol, length: usize, readings: &[Symbol], key: &[Symbol], out: &mut [Symbol]) -> Code {
+    let code = block_code(is_prime, q, length, readings, key, out);
     if code == 0 {
         for ((o, &a), &b) in out.iter_mut().zip(readings).zip(key) {
             *o = add(q, a, b);
@@ -83,8 +68,8 @@ pub fn upload(q: u16, length: usize, readings: &[u16], key: &[u16], out: &mut [u
 }
 
 #[inline(never)]
-pub fn unmask(q: u16, length: usize, upload: &[u16], key: &[u16], out: &mut [u16]) -> Code {
-    let code = block_code(q, length, upload, key, out);
+pub fn unmask(q: Symbol, length: usize, upload: &[Symbol], key: &[Symbol], out: &mut [Symbol]) -> Code {
+    let code = block_code(is_prime, q, length, upload, key, out);
     if code == 0 {
         for ((o, &a), &b) in out.iter_mut().zip(upload).zip(key) {
             *o = add(q, a, q - b);
@@ -93,7 +78,7 @@ pub fn unmask(q: u16, length: usize, upload: &[u16], key: &[u16], out: &mut [u16
     Code(code, 0, 0)
 }
 
-fn row_fits(q: u16, length: usize, sums: &[u16; 64]) -> bool {
+fn row_fits(q: Symbol, length: usize, sums: &[Symbol; 64]) -> bool {
     all_below(q, &sums[..length]) && sums[length..].iter().all(|&x| x == 0)
 }
 
@@ -124,7 +109,7 @@ fn is_ahead(r: &Relay, said: u32) -> bool {
 }
 
 /// A state, then a frame: "8, 14, 4, 3, 11."
-fn frame_code(r: &Relay, sender: usize, said: u32, block: &[u16]) -> u16 {
+fn frame_code(r: &Relay, sender: usize, said: u32, block: &[Symbol]) -> u16 {
     let code = state_code(r);
     if code != 0 {
         return code;
@@ -149,7 +134,7 @@ fn frame_code(r: &Relay, sender: usize, said: u32, block: &[u16]) -> u16 {
 }
 
 #[inline(never)]
-pub fn count(r: &mut Relay, sender: usize, said: u32, block: &[u16]) -> Code {
+pub fn count(r: &mut Relay, sender: usize, said: u32, block: &[Symbol]) -> Code {
     let code = frame_code(r, sender, said, block);
     if code == 0 {
         let (roll, sums) = if said == r.number { (&mut r.reported, &mut r.sums) } else { (&mut r.ahead, &mut r.held) };
@@ -179,7 +164,7 @@ pub fn advance(r: &mut Relay) -> Code {
 }
 
 /// Individual keys, the vet's part left out: "9, 4 for any block, 3."
-fn key_code(plan: &Plan, length: usize, source: &[u16], out: &[u16]) -> u16 {
+fn key_code(plan: &Plan, length: usize, source: &[Symbol], out: &[Symbol]) -> u16 {
     if !(1..=64).contains(&length) {
         return 9;
     }
@@ -194,24 +179,33 @@ fn key_code(plan: &Plan, length: usize, source: &[u16], out: &[u16]) -> u16 {
 
 /// With a remainder after each product, as the proved function has it.
 #[inline(never)]
-fn keys_by_steps(plan: &Plan, length: usize, source: &[u16], out: &mut [u16]) {
+fn keys_by_steps(plan: &Plan, length: usize, source: &[Symbol], out: &mut [Symbol]) {
     assert_eq!(key_code(plan, length, source, out), 0);
-    let q = plan.q as u32;
+    let q = plan.q as u64;
     for (keys, row) in out.chunks_mut(length).zip(plan.table.chunks(plan.rate)) {
         for (key, symbols) in keys.iter_mut().zip(source.chunks(plan.rate)) {
-            *key = row.iter().zip(symbols).fold(0, |sum, (&a, &b)| (sum + a as u32 * b as u32) % q) as u16;
+            *key = row.iter().zip(symbols).fold(0, |sum, (&a, &b)| (sum + a as u64 * b as u64) % q) as Symbol;
         }
+    }
+}
+
+/// The sum of up to 16 products modulo q, by one remainder: in 64 bits where it fits.
+fn at_once(q: Symbol, row: &[Symbol], symbols: &[Symbol]) -> Symbol {
+    let products = row.iter().zip(symbols).map(|(&a, &b)| a as u64 * b as u64);
+    if q < 1 << 30 {
+        (products.sum::<u64>() % q as u64) as Symbol
+    } else {
+        (products.map(u128::from).sum::<u128>() % q as u128) as Symbol
     }
 }
 
 /// With one remainder a symbol.
 #[inline(never)]
-fn keys_at_once(plan: &Plan, length: usize, source: &[u16], out: &mut [u16]) {
+fn keys_at_once(plan: &Plan, length: usize, source: &[Symbol], out: &mut [Symbol]) {
     assert_eq!(key_code(plan, length, source, out), 0);
-    let q = plan.q as u64;
     for (keys, row) in out.chunks_mut(length).zip(plan.table.chunks(plan.rate)) {
         for (key, symbols) in keys.iter_mut().zip(source.chunks(plan.rate)) {
-            *key = (row.iter().zip(symbols).map(|(&a, &b)| a as u64 * b as u64).sum::<u64>() % q) as u16;
+            *key = at_once(plan.q, row, symbols);
         }
     }
 }
@@ -230,17 +224,17 @@ fn least<const N: usize>(calls: usize, turns: usize, mut f: [&mut dyn FnMut(usiz
 }
 
 fn line(name: &str, unit: f64, proved: f64, plain: f64) -> bool {
-    println!("{name:44}{:12.2}{:11.2}{:8.2}", proved * unit, plain * unit, proved / plain);
+    println!("{name:54}{:12.2}{:11.2}{:8.2}", proved * unit, plain * unit, proved / plain);
     proved <= BAR * plain
 }
 
-fn drawn(s: &mut Seeded, q: u16, n: usize) -> Vec<u16> {
-    (0..n).map(|_| s.below(q as usize) as u16).collect()
+fn drawn(s: &mut Seeded, q: Symbol, n: usize) -> Vec<Symbol> {
+    (0..n).map(|_| s.symbol(q)).collect()
 }
 
-fn measure_blocks(s: &mut Seeded, q: u16) -> bool {
+fn measure_blocks(s: &mut Seeded, q: Symbol) -> bool {
     let (readings, key) = (drawn(s, q, 64), drawn(s, q, 64));
-    let (mut a, mut b) = (vec![0u16; 64], vec![0u16; 64]);
+    let (mut a, mut b) = (vec![0; 64], vec![0; 64]);
     let [x, y] = least(20_000, 15, [
         &mut |n| (0..n).for_each(|_| {
             black_box(proved::upload(black_box(q), 64, black_box(&readings), &key, black_box(&mut a)));
@@ -265,7 +259,7 @@ fn measure_blocks(s: &mut Seeded, q: u16) -> bool {
 }
 
 /// Eight frames of 64 symbols into a round, or, where `early`, ahead of it; then the round anew.
-fn frames(n: usize, q: u16, block: &[u16], early: u32, count: impl Fn(&mut Relay, usize, u32, &[u16]) -> Code) {
+fn frames(n: usize, q: Symbol, block: &[Symbol], early: u32, count: impl Fn(&mut Relay, usize, u32, &[Symbol]) -> Code) {
     for _ in 0..n / 8 {
         let mut relay = Relay::open(2, 8, black_box(q), 64);
         for sender in 1..9 {
@@ -274,19 +268,19 @@ fn frames(n: usize, q: u16, block: &[u16], early: u32, count: impl Fn(&mut Relay
     }
 }
 
-fn measure_frames(s: &mut Seeded, q: u16) -> bool {
+fn measure_frames(s: &mut Seeded, q: Symbol) -> bool {
     let block = drawn(s, q, 64);
     let mut met = true;
     for (early, name) in [(0, "frames"), (1, "early frames")] {
         let [x, y] = least(20_000, 15, [&mut |n| frames(n, q, &block, early, proved::count), &mut |n| frames(n, q, &block, early, count)]);
-        println!("{:44}{:12.2}{:11.2}", format!("{name} of 64, q {q}, million a second"), 1e-6 / x, 1e-6 / y);
+        println!("{:54}{:12.2}{:11.2}", format!("{name} of 64, q {q}, million a second"), 1e-6 / x, 1e-6 / y);
         met &= line(&format!("{name} of 64, q {q}, ns a frame"), 1e9, x, y);
     }
     met
 }
 
 /// Moving on from a round that is full, with a full one ahead.
-fn measure_moves(s: &mut Seeded, q: u16) -> bool {
+fn measure_moves(s: &mut Seeded, q: Symbol) -> bool {
     let mut relay = Relay { reported: 255, ahead: 255, ..Relay::open(2, 8, q, 64) };
     relay.sums.copy_from_slice(&drawn(s, q, 64));
     relay.held.copy_from_slice(&drawn(s, q, 64));
@@ -300,10 +294,10 @@ fn measure_moves(s: &mut Seeded, q: u16) -> bool {
 }
 
 /// Derivation less the vet's share of it, which the proved function makes first.
-fn measure_keys(s: &mut Seeded) -> bool {
-    let plan = Plan::made(8, 2, 0, 65521, 2);
+fn measure_keys(s: &mut Seeded, q: Symbol) -> bool {
+    let plan = Plan::made(8, 2, 0, q, 2);
     let source = drawn(s, plan.q, 64 * plan.rate);
-    let (mut a, mut b, mut c) = (vec![0u16; 1024], vec![0u16; 1024], vec![0u16; 1024]);
+    let (mut a, mut b, mut c) = (vec![0; 1024], vec![0; 1024], vec![0; 1024]);
     let [both, vet, steps, once] = least(200, 25, [
         &mut |n| (0..n).for_each(|_| assert_eq!(proved::derive(black_box(&plan), 64, black_box(&source), black_box(&mut a)), Code(0, 0, 0))),
         &mut |n| (0..n).for_each(|_| assert_eq!(proved::vet(black_box(&plan)), Code(0, 0, 0))),
@@ -311,22 +305,25 @@ fn measure_keys(s: &mut Seeded) -> bool {
         &mut |n| (0..n).for_each(|_| keys_at_once(black_box(&plan), 64, black_box(&source), black_box(&mut c))),
     ]);
     assert_eq!((&a, &a), (&b, &c));
-    let met = line("keys, remainder each product, ns a symbol", 1e9 / 1024.0, both - vet, steps);
-    line("keys, one remainder a symbol, ns a symbol", 1e9 / 1024.0, both - vet, once);
+    let met = line(&format!("keys, q {q}, remainder each product, ns a symbol"), 1e9 / 1024.0, both - vet, steps);
+    line(&format!("keys, q {q}, one remainder a symbol, ns a symbol"), 1e9 / 1024.0, both - vet, once);
     met
 }
 
-/// Whether every bar is met. The second line of keys has none: it says what one remainder a symbol would be worth.
+/// Whether every bar is met. The second lines of keys have none: they say what one remainder a symbol would be worth. Small primes
+/// have no table for so many users.
 pub fn measure() -> bool {
     let mut s = Seeded(11);
-    println!("{:44}{:>12}{:>11}{:>8}", "", "proved", "plain", "ratio");
+    println!("{:54}{:>12}{:>11}{:>8}", "", "proved", "plain", "ratio");
     let mut met = true;
-    for q in [65521, 5] {
+    for q in LARGE_PRIMES.into_iter().chain([5]) {
         met &= measure_blocks(&mut s, q);
         met &= measure_frames(&mut s, q);
         met &= measure_moves(&mut s, q);
     }
-    met &= measure_keys(&mut s);
+    for q in LARGE_PRIMES {
+        met &= measure_keys(&mut s, q);
+    }
     println!("bar (ratio at most {BAR}): {}", if met { "met" } else { "NOT met" });
     met
 }
@@ -335,17 +332,18 @@ pub fn measure() -> bool {
 pub fn compare(s: &mut Seeded, calls: usize) -> usize {
     let (mut differ, mut numbers) = (0, [0usize; 15]);
     for t in 0..calls {
-        let q = [2, 3, 5, 65521, 65521, 65521, 9, 1][s.below(8)];
+        let (prime, other) = (s.one_of(&PRIMES), s.one_of(&NO_PRIMES));
+        let q = s.one_of(&[prime, prime, prime, other]);
         let length = [1, 5, 63, 64, 64, 64, 0, 65][s.below(8)];
         let wrong = |s: &mut Seeded| (s.below(10) == 0) as usize;
         let (n, m) = (length + wrong(s), length + wrong(s));
-        let (mut a, mut b) = (drawn(s, q, n), drawn(s, q, length));
+        let (mut a, mut b) = (drawn(s, q.max(1), n), drawn(s, q.max(1), length));
         for x in [&mut a, &mut b] {
             if wrong(s) == 1 && !x.is_empty() {
                 x[0] = q;
             }
         }
-        let (mut x, mut y) = (vec![7u16; m], vec![7u16; m]);
+        let (mut x, mut y) = (vec![7; m], vec![7; m]);
         let (one, two) = match t % 2 {
             0 => (proved::upload(q, length, &a, &b, &mut x), upload(q, length, &a, &b, &mut y)),
             _ => (proved::unmask(q, length, &a, &b, &mut x), unmask(q, length, &a, &b, &mut y)),
@@ -360,11 +358,12 @@ pub fn compare(s: &mut Seeded, calls: usize) -> usize {
 /// Frames for this round, the next and others, and at times moving on, into rounds that may be damaged.
 fn compare_frames(s: &mut Seeded, calls: usize) -> usize {
     let (mut differ, mut numbers, mut differ_moved, mut moved) = (0, [0usize; 15], 0, [0usize; 15]);
-    let mut relay = Relay::open(2, 8, 65521, 64);
+    let mut relay = Relay::open(2, 8, 65_521, 64);
     for t in 0..calls {
         if t % 32 == 0 {
             let (clusters, size) = ([2, 1, 2, 2, 9][s.below(5)], [8, 8, 3, 2, 1, 9][s.below(6)]);
-            relay = Relay::open(clusters, size, [65521, 65521, 5, 2, 4][s.below(5)], [64, 64, 63, 1, 65, 0][s.below(6)]);
+            let (prime, other) = (s.one_of(&PRIMES), s.one_of(&NO_PRIMES));
+            relay = Relay::open(clusters, size, s.one_of(&[prime, prime, prime, prime, other]), [64, 64, 63, 1, 65, 0][s.below(6)]);
             relay.number = [7, u32::MAX - 2, u32::MAX - 1, u32::MAX][s.below(4)];
         }
         let given = spoiled(s, &relay);
@@ -401,8 +400,8 @@ fn spoiled(s: &mut Seeded, relay: &Relay) -> Relay {
     match s.below(24) {
         0 => given.reported |= 1 << s.below(16),
         1 => given.ahead |= 1 << s.below(16),
-        2 => given.sums[s.below(64)] = [1, relay.q][s.below(2)],
-        3 => given.held[s.below(64)] = [1, relay.q][s.below(2)],
+        2 => given.sums[s.below(64)] = s.one_of(&[1, 65_536, relay.q]),
+        3 => given.held[s.below(64)] = s.one_of(&[1, 65_536, relay.q]),
         4 => given.cluster = [0, 1, 3][s.below(3)],
         _ => {}
     }

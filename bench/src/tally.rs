@@ -1,6 +1,6 @@
 //! The proved functions against plain ones on seeded plans.
 
-use crate::{plain, proved, Plan};
+use crate::{plain, proved, Plan, Symbol};
 
 pub struct Seeded(pub u64);
 
@@ -13,14 +13,27 @@ impl Seeded {
     pub fn below(&mut self, n: usize) -> usize {
         (self.next() % n as u64) as usize
     }
+
+    /// A symbol, of 62 bits by chance.
+    pub fn symbol(&mut self, q: Symbol) -> Symbol {
+        ((self.next() << 31 | self.next()) % q as u64) as Symbol
+    }
+
+    pub fn one_of<T: Copy>(&mut self, from: &[T]) -> T {
+        from[self.below(from.len())]
+    }
 }
 
-const PRIMES: [u16; 5] = [2, 3, 5, 7, 65521];
+pub const PRIMES: [Symbol; 7] = [2, 3, 5, 7, 65_521, 65_537, 4_294_967_291];
+
+/// Numbers that are no primes: small ones, some near the bounds, one whose low 16 bits are 5, and a square that passes Fermat's test
+/// with 2.
+pub const NO_PRIMES: [Symbol; 12] = [0, 1, 4, 9, 49, 255, 65_535, 65_536, 65_541, 12_327_121, 4_294_967_293, 4_294_967_295];
 
 /// A table whose rows sum to zero; some symbols are 0 more often than chance has it, and at times one row repeats another, so that many plans leak.
-fn zero_sum(s: &mut Seeded, rows: usize, cols: usize, q: u16) -> Vec<u16> {
+fn zero_sum(s: &mut Seeded, rows: usize, cols: usize, q: Symbol) -> Vec<Symbol> {
     let sparse = 1 + s.below(4);
-    let mut table: Vec<u16> = (0..rows * cols).map(|_| if s.below(4) < sparse { s.below(q as usize) as u16 } else { 0 }).collect();
+    let mut table: Vec<Symbol> = (0..rows * cols).map(|_| if s.below(4) < sparse { s.symbol(q) } else { 0 }).collect();
     if rows > 2 && s.below(4) == 0 {
         let (from, to) = (s.below(rows - 1), s.below(rows - 1));
         for k in 0..cols {
@@ -29,7 +42,7 @@ fn zero_sum(s: &mut Seeded, rows: usize, cols: usize, q: u16) -> Vec<u16> {
     }
     for k in 0..cols {
         let sum: u64 = (0..rows - 1).map(|i| table[i * cols + k] as u64).sum();
-        table[(rows - 1) * cols + k] = ((q as u64 - sum % q as u64) % q as u64) as u16;
+        table[(rows - 1) * cols + k] = ((q as u64 - sum % q as u64) % q as u64) as Symbol;
     }
     table
 }
@@ -42,7 +55,7 @@ fn spoil(s: &mut Seeded, plan: &mut Plan) {
         1 => plan.size = [0, 9, 8, usize::MAX][s.below(4)],
         2 => plan.limit = plan.clusters * plan.size + 1 + s.below(3),
         3 => plan.rate = [0, 17, usize::MAX][s.below(3)],
-        4 => plan.q = [0, 1, 4, 9, 255, 65535, 49][s.below(7)],
+        4 => plan.q = s.one_of(&NO_PRIMES),
         5 => plan.table.push(0),
         6 => drop(plan.table.pop()),
         7 => plan.table[s.below(symbols)] = plan.q,
@@ -61,13 +74,13 @@ fn seeded(s: &mut Seeded) -> Plan {
         }
     };
     let users = clusters * size;
-    let q = PRIMES[s.below(5)];
+    let q = s.one_of(&PRIMES);
     let small = s.below(3);
     let limit = if s.below(8) == 0 { s.below(users + 1) } else { small.min(users) };
     if s.below(3) == 0 && clusters > 1 {
         let limit = limit.min((clusters - 1) * size - 1);
         if plain::rate_of(clusters, size, limit) <= 16 {
-            return Plan::made(clusters, size, limit, q, s.below(q as usize) as u16);
+            return Plan::made(clusters, size, limit, q, s.symbol(q));
         }
     }
     let rate = 1 + s.below(16);
@@ -107,11 +120,15 @@ fn compare_makers(s: &mut Seeded, calls: usize) -> usize {
     for _ in 0..calls {
         let (u, v) = (s.below(10), s.below(10));
         let limit = s.below(4);
-        let q = if s.below(8) == 0 { s.next() as u16 } else { PRIMES[s.below(5)] };
-        let gamma = if s.below(8) == 0 { q } else { s.below(q.max(1) as usize) as u16 };
+        let q = match s.below(8) {
+            0 => s.symbol(65_536),
+            1 => s.symbol(Symbol::MAX),
+            _ => s.one_of(&PRIMES),
+        };
+        let gamma = if s.below(8) == 0 { q } else { s.symbol(q.max(1)) };
         let fits = u > 0 && v > 0 && u * v <= 16;
         let lent = if fits && s.below(8) > 0 { u * v * plain::rate_of(u, v, limit) } else { s.below(300) };
-        let old = vec![7u16; lent];
+        let old = vec![7; lent];
         let mut table = old.clone();
         let a = proved::make(u, v, limit, q, gamma, &mut table);
         let (b, made) = plain::make(u, v, limit, q, gamma, lent);
@@ -138,12 +155,11 @@ fn compare_keys(s: &mut Seeded, calls: usize) -> usize {
         let spare = |s: &mut Seeded| (s.below(12) == 0) as usize;
         let given = length * plan.rate.min(17) + spare(s);
         let lent = (plan.clusters.min(9) * plan.size.min(9)) * length + spare(s);
-        let top = plan.q.max(1) as usize;
-        let mut source: Vec<u16> = (0..given).map(|_| s.below(top) as u16).collect();
+        let mut source: Vec<Symbol> = (0..given).map(|_| s.symbol(plan.q.max(1))).collect();
         if s.below(12) == 0 && given > 0 {
             source[s.below(given)] = plan.q;
         }
-        let old = vec![7u16; lent];
+        let old = vec![7; lent];
         let mut keys = old.clone();
         let a = proved::derive(&plan, length, &source, &mut keys);
         let (b, derived) = plain::derive(&plan, length, &source, lent);
