@@ -8,10 +8,13 @@ use crate::numbers::step;
 use arithmetic::Symbol;
 use arithmetic::all_below;
 use std::num::wrapping_add_u64;
+use std::num::wrapping_sub_u32;
 
 const LENGTH: usize = 16;
 
-// Half of sixteen.
+// Of sixteen.
+const FEW: u64 = 2;
+
 const HALF: u64 = 8;
 
 type Symbols = [Symbol; LENGTH];
@@ -24,11 +27,19 @@ pub enum Place {
     Last,
 }
 
+// A number below q, in a few cases the last.
+fn drawn(q: Symbol, x: u64) -> Symbol {
+    if sixteenth(x) < FEW {
+        return wrapping_sub_u32(q, 1);
+    }
+    below(q, low32(step(x)))
+}
+
 fn fill(symbols: &mut Symbols, q: Symbol, seed: u64) {
     let mut x = seed;
     for k in 0..LENGTH {
         x = step(x);
-        symbols[k] = below(q, low32(x));
+        symbols[k] = drawn(q, x);
     }
 }
 

@@ -24,5 +24,4 @@ fill-spec =
     (search needs)
     (search needs)
     (search needs)
-    (search needs)
     (search needs))
