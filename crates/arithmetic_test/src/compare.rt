@@ -15,7 +15,7 @@ use crate::slices::place_agrees;
 use crate::tally::Tally;
 use crate::tally::counted;
 use crate::tally::none;
-pub use arithmetic::is_prime;
+pub use primes::is_prime;
 
 pub enum Subject {
     IsPrime,

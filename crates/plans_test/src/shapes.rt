@@ -1,7 +1,7 @@
 // Counts and moduli, right ones drawn, and wrong ones.
 use arithmetic::Symbol;
-use arithmetic::is_prime;
 use plans::Plan;
+use primes::is_prime;
 use testing::draw;
 use testing::is_outside;
 use testing::narrow;
