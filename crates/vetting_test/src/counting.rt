@@ -13,7 +13,7 @@ use std::num::wrapping_add_u8;
 use std::num::wrapping_add_usize;
 use std::num::wrapping_sub_u8;
 use testing::mul_add;
-use testing::narrow;
+use testing::narrow16;
 use testing::power;
 use testing::product;
 use testing::quotient;
@@ -124,7 +124,7 @@ fn view(s: Shape, keys: &[u8; 512], p: Pair, w: usize, n: usize) -> u16 {
         members = members / 2;
         readings = quotient(readings, s.q);
     }
-    narrow(v.number)
+    narrow16(v.number)
 }
 
 fn increase(counts: &mut [u8; 65536], v: u16) {

@@ -6,7 +6,7 @@ use crate::tables::users;
 use arithmetic::Symbol;
 use testing::column_sum;
 use testing::count_large;
-use testing::divisors;
+use testing::is_prime;
 use testing::residue;
 
 fn is_one_to(n: usize, most: usize) -> bool {
@@ -45,7 +45,7 @@ pub fn refusal(s: Shape, t: &[Symbol]) -> usize {
     if t.len() != symbols(s) {
         return pack(4, 0, 0);
     }
-    if divisors(s.q) != 2 {
+    if !is_prime(s.q) {
         return pack(2, 0, 0);
     }
     if count_large(t, s.q) != 0 {

@@ -5,7 +5,7 @@ use crate::numbers::pack;
 use crate::tables::Shape;
 use libc::STDOUT_FILENO;
 use std::num::wrapping_add_usize;
-use testing::wide;
+use testing::wide16;
 use vetting::PairCount;
 
 // U and V from 0 to 9, T from 0 to 17: all counts within their bounds, and some outside.
@@ -34,7 +34,7 @@ fn counted(s: Shape) -> usize {
         PairCount::Pairs(n) => n as usize,
         PairCount::Refused(refusal) => {
             let code = refusals::code_of(refusal);
-            pack(wide(code.number), wide(code.first), wide(code.second))
+            pack(wide16(code.number), wide16(code.first), wide16(code.second))
         }
     }
 }

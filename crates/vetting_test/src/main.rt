@@ -19,7 +19,7 @@ use refusals::Verdict;
 use std::num::wrapping_add_usize;
 use tables::Shape;
 use testing::narrow;
-use testing::wide;
+use testing::wide16;
 
 // One symbol more than the largest table has.
 pub(crate) const LONGEST: usize = 257;
@@ -36,7 +36,7 @@ pub(crate) fn plan_of(s: Shape) -> Plan {
 
 pub(crate) fn said(verdict: Verdict) -> usize {
     let code = refusals::verdict_code(verdict);
-    pack(wide(code.number), wide(code.first), wide(code.second))
+    pack(wide16(code.number), wide16(code.first), wide16(code.second))
 }
 
 // How many pairs are looked at before an answer: up to the one that it names, all where nothing is refused, and none before another refusal.

@@ -44,7 +44,7 @@ pub fn entry(s: Shape, t: &[Symbol], i: usize, k: usize) -> usize {
 // Adds c to symbol k of row i.
 pub fn add(s: Shape, t: &mut [Symbol], i: usize, k: usize, c: usize) {
     let x = mul_add(k, i, s.rate);
-    put(t, x, residue(at(t, x) % 65536 + c % 65536, s.q));
+    put(t, x, residue(at(t, x) % 4294967296 + c % 4294967296, s.q));
 }
 
 // Moves a symbol from one row to another in one column, which leaves the column's sum.
@@ -75,13 +75,24 @@ fn turns(x: usize) -> usize {
     }
 }
 
+// No symbols: q and the number after it, and the edges of 16 and of 32 bits.
+fn too_large(q: usize, x: usize) -> usize {
+    match draw(x, 6) {
+        0 => 65535,
+        1 => 65536,
+        2 => 4294967295,
+        3 => q % 65536 + 1,
+        _ => q,
+    }
+}
+
 // In one table of 16 a number that is not below q, in another one a column whose sum is not 0, if c is none.
 fn spoil(s: Shape, t: &mut [Symbol], x: usize) {
     let y = step(x);
     let i = draw(step(y), users(s));
     let k = draw(y, s.rate);
     match draw(x, 16) {
-        0 => put(t, mul_add(k, i, s.rate), s.q % 65536 + step(y) % 2),
+        0 => put(t, mul_add(k, i, s.rate), too_large(s.q, seed(y))),
         1 => add(s, t, i, k, draw(seed(y), s.q)),
         _ => {}
     }

@@ -7,8 +7,8 @@ use testing::draw;
 use testing::put;
 use testing::seed;
 
-// 16 shapes, 3 lengths, 9 moduli and 4 symbols.
-pub const CASES: usize = 1728;
+// 16 shapes, 3 lengths, 15 moduli and 6 symbols.
+pub const CASES: usize = 4320;
 
 fn counts(clusters: usize, size: usize, limit: usize, rate: usize) -> Shape {
     Shape {
@@ -42,18 +42,24 @@ fn counts_of(n: usize) -> Shape {
     }
 }
 
-// The first 4 are primes.
+// The first 7 are primes, 3 of them of 32 bits. The last is the square of the largest prime of 16 bits.
 fn modulus(n: usize) -> usize {
     match n {
         0 => 2,
         1 => 5,
         2 => 257,
         3 => 65521,
-        4 => 0,
-        5 => 1,
-        6 => 4,
-        7 => 9,
-        _ => 65535,
+        4 => 65537,
+        5 => 2147483647,
+        6 => 4294967291,
+        7 => 0,
+        8 => 1,
+        9 => 4,
+        10 => 9,
+        11 => 65535,
+        12 => 65536,
+        13 => 4294967295,
+        _ => 4293001441,
     }
 }
 
@@ -64,7 +70,7 @@ pub fn shape(number: usize) -> Shape {
         size: c.size,
         limit: c.limit,
         rate: c.rate,
-        q: modulus(number / 48 % 9),
+        q: modulus(number / 48 % 15),
     }
 }
 
@@ -78,17 +84,19 @@ pub fn length(number: usize) -> usize {
     }
 }
 
-// The one number of the table that may not be 0. The first two are below q; the second makes a column's sum wrong.
+// The one number of the table that may not be 0; where it is a symbol, it makes a column's sum wrong.
 fn symbol(q: usize, n: usize) -> usize {
     match n {
         0 => 0,
         1 => wrapping_sub_usize(q, 1),
         2 => q,
-        _ => 65535,
+        3 => 65535,
+        4 => 65536,
+        _ => 4294967295,
     }
 }
 
 pub fn fill(number: usize, t: &mut [Symbol]) {
     let s = shape(number);
-    put(t, draw(seed(number), t.len()), symbol(s.q, number / 432));
+    put(t, draw(seed(number), t.len()), symbol(s.q, number / 720));
 }
