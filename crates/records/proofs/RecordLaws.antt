@@ -241,34 +241,35 @@ head-bytes B b w s h =
     ∙ sym (drop-two B s (s + 1) (s + 2) refl refl (omega arith))
 
 module _ (B out : List ℕ) (bytes : AreBytes B) (read : accepted ≡ readCode B out) where
-  abbrev wr : ℕ
-  wr = widthIn B
+  -- the width that the mark tells
+  abbrev told : ℕ
+  told = widthIn B
 
-  tail : trailerOf wr (sizeWith wr (planRead B)) ≡ drop (length B - 4) B
+  tail : trailerOf told (sizeWith told (planRead B)) ≡ drop (length B - 4) B
   tail =
       let t = trailer-of B (readable B out read .trailer) in
       let n : ℕ = length B in
-      let last : drop (n - 2) B ≡ marksOf wr =
+      let last : drop (n - 2) B ≡ marksOf told =
       drop-two B (n - 2) (n - 1) n (omega (arith, t .four)) (omega (arith, t .four)) (omega arith)
       ∙ ap₂ (λ (x y : ℕ). x ∷ y ∷ drop n B) (t .first-mark) (t .last-mark)
-      ∙ ap (λ (l : List ℕ). 0x4b ∷ markOf wr ∷ l) (drop-of-length-le B {i = n} (omega arith)) in
+      ∙ ap (λ (l : List ℕ). 0x4b ∷ markOf told ∷ l) (drop-of-length-le B {i = n} (omega arith)) in
       ap₂ (λ (x : ℕ) (l : List ℕ). bytesOf 2 x ++ l) (sym (readable B out read .size)) (sym last)
       ∙ bytes-of-number B bytes 2 (n - 4) (n - 2) (omega (arith, t .four)) (omega arith)
 
-  all-bytes : recordWith wr (planRead B) (tableRead B) ≡ drop (start B) B
+  all-bytes : recordWith told (planRead B) (tableRead B) ≡ drop (start B) B
   all-bytes =
       let r = readable B out read in
       let t = trailer-of B (r .trailer) in
       let s : ℕ = start B in
       let P : Plan = planRead B in
       let n : ℕ = length B in
-      let m : n ≡ s + 8 + wr + wr * (usersOf P * P .rate) = omega (arith, r .size, t .inside) in
-      let body : bytesOfAll wr (tableRead B) ++ drop (n - 4) B ≡ drop (s + 4 + wr) B =
-      bytes-of-numbers B bytes wr (usersOf P * P .rate) (s + 4 + wr) (n - 4) (omega arith) (omega arith) in
-      record-pieces wr P (tableRead B)
-      ∙ ap (λ (l : List ℕ). headOf wr P ++ (bytesOfAll wr (tableRead B) ++ l)) tail
-      ∙ ap (λ (l : List ℕ). headOf wr P ++ l) body
-      ∙ head-bytes B bytes wr s (omega arith)
+      let m : n ≡ s + 8 + told + told * (usersOf P * P .rate) = omega (arith, r .size, t .inside) in
+      let body : bytesOfAll told (tableRead B) ++ drop (n - 4) B ≡ drop (s + 4 + told) B =
+      bytes-of-numbers B bytes told (usersOf P * P .rate) (s + 4 + told) (n - 4) (omega arith) (omega arith) in
+      record-pieces told P (tableRead B)
+      ∙ ap (λ (l : List ℕ). headOf told P ++ (bytesOfAll told (tableRead B) ++ l)) tail
+      ∙ ap (λ (l : List ℕ). headOf told P ++ l) body
+      ∙ head-bytes B bytes told s (omega arith)
 
 -- whatever is read, written again, is the last D bytes of the buffer
 pub read-write : (B out : List ℕ) → AreBytes B → accepted ≡ readCode B out → recordOf (planRead B) (tableRead B) ≡ drop (length B - distance B) B
