@@ -66,18 +66,11 @@ fn small_prime(q: u32) -> bool
     true
 }
 
-pub fn is_prime(q: u32) -> bool
+// An odd number from SMALL on. It stands apart from the small ones, which are told without its tables on the stack.
+fn large_prime(q: u32) -> bool
+    requires { ⌜ (256 ≤ q) × (q % 2 ≡ 1) ⌝ }
     ensures { λ r. ⌜ r ≡ isPrime q ⌝ }
 {
-    if q < 2 {
-        return false;
-    }
-    if q % 2 == 0 {
-        return q == 2;
-    }
-    if q < SMALL {
-        return small_prime(q);
-    }
     if low_divisor(q) {
         return false;
     }
@@ -94,4 +87,19 @@ pub fn is_prime(q: u32) -> bool
         return false;
     }
     !listed(q)
+}
+
+pub fn is_prime(q: u32) -> bool
+    ensures { λ r. ⌜ r ≡ isPrime q ⌝ }
+{
+    if q < 2 {
+        return false;
+    }
+    if q % 2 == 0 {
+        return q == 2;
+    }
+    if q < SMALL {
+        return small_prime(q);
+    }
+    large_prime(q)
 }
