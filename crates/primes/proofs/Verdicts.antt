@@ -1,7 +1,7 @@
 -- What each answer of the test stands on.
 use mathlib.Core.Path.{_≡_, sym, _∙_}
 use mathlib.Core.Logic.{_≢_}
-use mathlib.Core.Bool.{Bool, true, false, not}
+use mathlib.Core.Bool.{Bool, true, false}
 use mathlib.Core.List.{List}
 use Prim.Native.Nat.{ℕ, _-_, _*_, _%_, _^_, _≤_, _<_}
 use native.Mathlib.Nat.{mod-eq-of-lt}
@@ -11,7 +11,7 @@ use Rattle.residues.specs.Primes.{isPrime}
 use Rattle.residues.proofs.Congruence.{cong-one, to-mod}
 use Rattle.residues.proofs.PrimeLaws.{prime-true, not-prime-false, undivided-prime}
 use Rattle.pseudoprimes.proofs.Tables.{someDivides, member, lowPrimes, highPrimes, listedNumbers}
-use Rattle.pseudoprimes.proofs.TableLaws.{within, divided-composite, listed-composite}
+use Rattle.pseudoprimes.proofs.TableLaws.{within, divided-composite}
 use Rattle.pseudoprimes.proofs.Trial.{low-undivided, odd-undivided}
 use Rattle.pseudoprimes.proofs.Fermat.{fermat}
 use Rattle.pseudoprimes.proofs.Complete.{complete}
@@ -34,11 +34,10 @@ module _ (q : ℕ) (r : Bool) (two : 2 ≤ q) (odd : q % 2 ≡ 1) (low : r ≡ s
     pub high-true : q < 1627 * 1627 → true ≡ isPrime q
     high-true l = sym (prime-true q (undivided-prime q 1627 two l (odd-undivided q odd (sym low ∙ no-low) (sym high ∙ no-high))))
 
-    -- and the power is 1
-    pub listed-or-prime : (x : ℕ) (w : Bool) → q < 4294967296 → x ≡ 2 ^ (q - 1) % q → x ≡ 1 → w ≡ member q listedNumbers → not w ≡ isPrime q
-    listed-or-prime x true top ex one e = sym (not-prime-false q (listed-composite q (true→T (member q listedNumbers) (sym e))))
-    listed-or-prime x false top ex one e =
+    -- and the power is 1, and q is not listed
+    pub unlisted-true : (x : ℕ) → q < 4294967296 → x ≡ 2 ^ (q - 1) % q → x ≡ 1 → member q listedNumbers ≡ false → true ≡ isPrime q
+    unlisted-true x top ex one e =
         sym
         (prime-true q
         (complete q two top odd (odd-undivided q odd (sym low ∙ no-low) (sym high ∙ no-high)) (cong-one q two (2 ^ (q - 1)) (sym ex ∙ one))
-        (false→not-T (member q listedNumbers) (sym e))))
+        (false→not-T (member q listedNumbers) e)))

@@ -7,17 +7,10 @@ ghost use Rattle.residues.specs.Primes.{isPrime};
 mod divisors;
 mod listed;
 
-use divisors::high_divisor;
-use divisors::low_divisor;
-use listed::listed;
+use listed::large_prime;
 
 // Below this, odd divisors up to the root are the quickest. Not much less would do: the first table goes up to 251, and each prime divides itself.
 const SMALL: u32 = 256;
-
-// What has no divisor below d is a prime where it is below d squared. The tables have every odd prime below 257, and below 1,627.
-const LOW_SQUARE: u32 = 257 * 257;
-
-const HIGH_SQUARE: u32 = 1627 * 1627;
 
 // The highest 5 of 32 bits are an exponent below 32, whose power is a shift; the 27 after them are taken one by one.
 const LATER_BITS: u32 = 27;
@@ -36,7 +29,7 @@ fn squared(n: u64, x: u64, bit: u32) -> u64
 }
 
 // 2 to the power q - 1, modulo q.
-fn power_of_two(q: u32) -> u32
+pub(crate) fn power_of_two(q: u32) -> u32
     requires { ⌜ 2 ≤ q ⌝ }
     ensures { λ r. ⌜ r ≡ 2 ^ (q - 1) % q ⌝ }
 {
@@ -64,29 +57,6 @@ fn small_prime(q: u32) -> bool
         d += 2;
     }
     true
-}
-
-// An odd number from SMALL on. It stands apart from the small ones, which are told without its tables on the stack.
-fn large_prime(q: u32) -> bool
-    requires { ⌜ (256 ≤ q) × (q % 2 ≡ 1) ⌝ }
-    ensures { λ r. ⌜ r ≡ isPrime q ⌝ }
-{
-    if low_divisor(q) {
-        return false;
-    }
-    if q < LOW_SQUARE {
-        return true;
-    }
-    if high_divisor(q) {
-        return false;
-    }
-    if q < HIGH_SQUARE {
-        return true;
-    }
-    if power_of_two(q) != 1 {
-        return false;
-    }
-    !listed(q)
 }
 
 pub fn is_prime(q: u32) -> bool

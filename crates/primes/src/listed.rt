@@ -1,11 +1,38 @@
-// The numbers with no divisor below 1,627 that pass at base 2 and are no primes. As a table they would be written to the stack at each call; the keys of
-// a match are compared where they stand.
+// The numbers from 256 on, and the list of those with no divisor below 1,627 that pass at base 2 and are no primes. As a table they would be written to the
+// stack at each call; the keys of a match are compared where they stand.
 ghost use mathlib.Core.Path.{_≡_};
-ghost use Rattle.pseudoprimes.proofs.Tables.{member, listedNumbers};
+ghost use Prim.Native.Nat.{_%_, _≤_};
+ghost use Rattle.residues.specs.Primes.{isPrime};
+use crate::divisors::high_divisor;
+use crate::divisors::low_divisor;
+use crate::power_of_two;
 
-pub(crate) fn listed(q: u32) -> bool
-    ensures { λ r. ⌜ r ≡ member q listedNumbers ⌝ }
+// What has no divisor below d is a prime where it is below d squared. The tables have every odd prime below 257, and below 1,627.
+const LOW_SQUARE: u32 = 257 * 257;
+
+const HIGH_SQUARE: u32 = 1627 * 1627;
+
+// An odd number that is not small. The list stands in this function and not in one of its own: so the function is too large to be put into its caller, which is
+// small enough to be put into those that ask for a prime, and a small q is told without a call.
+pub(crate) fn large_prime(q: u32) -> bool
+    requires { ⌜ (256 ≤ q) × (q % 2 ≡ 1) ⌝ }
+    ensures { λ r. ⌜ r ≡ isPrime q ⌝ }
 {
+    if low_divisor(q) {
+        return false;
+    }
+    if q < LOW_SQUARE {
+        return true;
+    }
+    if high_divisor(q) {
+        return false;
+    }
+    if q < HIGH_SQUARE {
+        return true;
+    }
+    if power_of_two(q) != 1 {
+        return false;
+    }
     match q {
         4469471
         | 5351537
@@ -3853,7 +3880,7 @@ pub(crate) fn listed(q: u32) -> bool
         | 4278305651
         | 4281766711
         | 4283998993
-        | 4293088801 => true,
-        _ => false,
+        | 4293088801 => false,
+        _ => true,
     }
 }

@@ -1,12 +1,15 @@
 -- Each answer by its law. What is known at an answer is what the tests before it left, one after the other.
-use mathlib.Core.Path.{_≡_}
+use mathlib.Core.Path.{_≡_, sym}
 use Prim.Native.Nat.{_%_, _≤_}
 use native.Mathlib.Omega.{arith}
-use Rattle.pseudoprimes.proofs.Tables.{lowPrimes, highPrimes}
-use Rattle.pseudoprimes.proofs.TableLaws.{low-within, high-within}
-use Rattle.primes.proofs.Verdicts.{divided-false, fails-false, low-true, high-true, listed-or-prime}
-use Rattle.primes.proofs.large_prime.Statement.{statement}
-use Rattle.primes.proofs.large_prime.Tie as tie
+use Rattle.lists.proofs.Searches.{not-T→false}
+use Rattle.residues.proofs.PrimeLaws.{not-prime-false}
+use Rattle.pseudoprimes.proofs.Tables.{lowPrimes, highPrimes, member, listedNumbers, listedTree, flat}
+use Rattle.pseudoprimes.proofs.TableLaws.{low-within, high-within, listed-composite}
+use Rattle.primes.proofs.Lookup.{key-member, member-key}
+use Rattle.primes.proofs.Verdicts.{divided-false, fails-false, low-true, high-true, unlisted-true}
+use Rattle.primes.proofs.listed.large_prime.Statement.{statement}
+use Rattle.primes.proofs.listed.large_prime.Tie as tie
 
 two : (s : tie.Start) → 2 ≤ s .args .q
 two s = omega (arith, s .pre .0)
@@ -49,14 +52,22 @@ returns-5 c =
     let t = x .before .before .before .before .before .before in
     fails-false _ (x .power-of-two .result) (odd (t .before)) (x .power-of-two .ensures) (c .if5 .taken)
 
+-- the keys of the match are the listed numbers
 returns-6 : tie.Need-returns-6
-returns-6 c =
+unfolding listedNumbers listedTree flat
+returns-6 c = sym (not-prime-false _ (listed-composite _ (key-member listedNumbers _ (c .match .keys1))))
+
+returns-7 : tie.Need-returns-7
+unfolding listedNumbers listedTree flat
+returns-7 c =
     let x = c .before .before in
     let u = x .before .before .before in
     let t = u .before .before .before in
-    listed-or-prime _ (t .low-divisor .result) (two (t .before)) (odd (t .before)) (t .low-divisor .ensures) (u .before .before .if1 .left)
+    let q = t .before .args .q in
+    unlisted-true q (t .low-divisor .result) (two (t .before)) (odd (t .before)) (t .low-divisor .ensures) (u .before .before .if1 .left)
     (u .high-divisor .result) (u .high-divisor .ensures) (x .before .before .if3 .left)
-    (x .power-of-two .result) (c .listed .result) (omega arith) (x .power-of-two .ensures) (c .before .if5 .left) (c .listed .ensures)
+    (x .power-of-two .result) (omega arith) (x .power-of-two .ensures) (c .before .if5 .left)
+    (not-T→false (member q listedNumbers) (λ t. c .match .rest .1 (member-key listedNumbers q t)))
 
 pub large-prime-spec : {M : Type 1} → statement M
 large-prime-spec =
@@ -70,5 +81,5 @@ large-prime-spec =
     returns-4
     power-of-two-requires
     returns-5
-    (λ c κs. tt)
-    returns-6)
+    returns-6
+    returns-7)
