@@ -1,9 +1,11 @@
-// Individual keys: sums in 64 bits from the last symbol to the first, reduced once.
+// Individual keys: products by halves, and sums in 64 bits from the last symbol to the first, reduced once.
 use crate::making::table;
+use crate::numbers::UNTOUCHED;
 use crate::numbers::compared;
 use crate::numbers::verdict_said;
 use crate::numbers::wrong_length;
 use crate::shapes::Shape;
+use crate::shapes::TABLE_AND_ONE;
 use crate::shapes::plan_of;
 use crate::shapes::shape_of;
 use crate::shapes::spoil;
@@ -11,6 +13,7 @@ use crate::shapes::symbols;
 use crate::shapes::users;
 use arithmetic::Symbol;
 use keys::derive_keys;
+use std::num::wrapping_add_usize;
 use testing::at;
 use testing::clip;
 use testing::count_large;
@@ -20,12 +23,17 @@ use testing::is_outside;
 use testing::mul_add;
 use testing::over;
 use testing::product;
+use testing::product_mod;
 use testing::put;
 use testing::quotient;
 use testing::residue;
 use testing::seed;
 use testing::step;
+use testing::wide;
 use vetting::vet;
+
+// Room for a block of the largest length and one more, 65 positions, of 16 symbols or users each.
+const ROOM: usize = 1100;
 
 // With the maker's rate, but for the last, which is out of bounds. No coalition is large, so that the walk is short.
 fn counts(n: usize) -> usize {
@@ -43,13 +51,21 @@ fn counts(n: usize) -> usize {
     }
 }
 
+// How many moduli there are, half of them of 32 bits.
+const MODULI: usize = 10;
+
 fn modulus(n: usize) -> usize {
     match n {
         0 => 5,
         1 => 257,
         2 => 4099,
         3 => 65519,
-        _ => 65521,
+        4 => 65521,
+        5 => 65537,
+        6 => 16777259,
+        7 => 2147483647,
+        8 => 4294967279,
+        _ => 4294967291,
     }
 }
 
@@ -59,16 +75,14 @@ fn key(s: Shape, t: &[Symbol], source: &[Symbol], i: usize, p: usize) -> usize {
     let mut k = s.rate;
     while k > 0 {
         k -= 1;
-        sum = mul_add(
-            sum,
-            at(t, mul_add(k, i, s.rate)),
-            at(source, mul_add(k, p, s.rate)),
-        );
+        let symbol = at(t, mul_add(k, i, s.rate));
+        let key = at(source, mul_add(k, p, s.rate));
+        sum = wrapping_add_usize(sum, product_mod(s.q, symbol, key));
     }
     residue(sum, s.q)
 }
 
-// Place by place: users one after the other, `many` symbols each; where the call was refused, 65,535 everywhere, as before it.
+// Place by place: users one after the other, `many` symbols each; where the call was refused, what was there before.
 fn are_keys(
     s: Shape,
     t: &[Symbol],
@@ -79,7 +93,7 @@ fn are_keys(
 ) -> bool {
     for x in 0..keys.len() {
         let want = key(s, t, source, quotient(x, many), residue(x, many));
-        if at(keys, x) != over(number > 0, 65535, want) {
+        if at(keys, x) != over(number > 0, wide(UNTOUCHED), want) {
             return false;
         }
     }
@@ -108,26 +122,26 @@ fn drawn_shape(number: usize, x: usize) -> Shape {
     let more = over(draw(x, 16) == 0, 100, 0);
     shape_of(
         counts(number % 10) % 100000000 + more % 256,
-        modulus(draw(step(x), 5)),
+        modulus(draw(step(x), MODULI)),
     )
 }
 
 // The table made the other way; in one of 16 a symbol becomes 0.
-fn drawn_table(s: Shape, x: usize) -> [Symbol; 257] {
+fn drawn_table(s: Shape, x: usize) -> [Symbol; TABLE_AND_ONE] {
     let mut t = table(s, 3, true);
     put(
         &mut t,
-        over(draw(x, 16) == 0, draw(step(x), symbols(s)), 300),
+        over(draw(x, 16) == 0, draw(step(x), symbols(s)), TABLE_AND_ONE),
         0,
     );
     t
 }
 
-// In one source of eight a symbol becomes q or the largest number.
-fn drawn_source(q: usize, many: usize, x: usize) -> [Symbol; 1100] {
-    let mut source = [0 as Symbol; 1100];
+// In one source of eight a symbol becomes q, the largest number, or one at the edge of 16 bits.
+fn drawn_source(q: usize, many: usize, x: usize) -> [Symbol; ROOM] {
+    let mut source = [0 as Symbol; ROOM];
     fill(&mut source, q, x);
-    spoil(&mut source, draw(step(x), many), q, draw(seed(x), 16));
+    spoil(&mut source, draw(step(x), many), q, draw(seed(x), 32));
     source
 }
 
@@ -136,10 +150,10 @@ pub fn dealt(s: Shape, many: usize, x: usize, kind: usize) -> usize {
     let length = product(many, s.rate);
     let t = drawn_table(s, seed(x));
     let source = drawn_source(s.q, length, seed(step(x)));
-    let n = clip(symbols(s), 257);
-    let m = clip(wrong_length(length, kind % 16), 1100);
-    let k = clip(wrong_length(product(many, users(s)), kind / 16), 1100);
-    let mut keys = [65535 as Symbol; 1100];
+    let n = clip(symbols(s), TABLE_AND_ONE);
+    let m = clip(wrong_length(length, kind % 16), ROOM);
+    let k = clip(wrong_length(product(many, users(s)), kind / 16), ROOM);
+    let mut keys = [UNTOUCHED; ROOM];
     judged(s, &t[..n], many, &source[..m], &mut keys[..k])
 }
 

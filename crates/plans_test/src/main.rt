@@ -10,9 +10,13 @@ mod shapes;
 mod writing;
 
 use libc::STDOUT_FILENO;
+use numbers::DIFFER;
 use std::num::wrapping_add_usize;
 use testing::clip;
 use testing::product;
+
+// What is asked, in turn.
+const KINDS: usize = 10;
 
 fn outcome(kind: usize, number: usize) -> usize {
     match kind {
@@ -22,31 +26,35 @@ fn outcome(kind: usize, number: usize) -> usize {
         3 => reading::read(reading::damaged(number)),
         4 => reading::read(reading::cut(number)),
         5 => reading::read(reading::lent(number)),
-        6 => making::made(number),
-        7 => individual::derived(number),
+        6 => reading::read(reading::marked(number)),
+        7 => making::made(number),
+        8 => individual::derived(number),
         _ => named::named(number),
     }
 }
 
 fn cases(kind: usize) -> usize {
     match kind {
-        0 => 1144,
-        1 => 6000,
-        2 => 9184,
-        3 => 33408,
+        0 => 1256,
+        1 => 12000,
+        2 => 15520,
+        3 => 34560,
         4 => 6000,
         5 => 4096,
-        6 => 129600,
-        7 => 6600,
-        _ => 9,
+        6 => 4096,
+        7 => making::CASES,
+        8 => 6600,
+        _ => named::CASES,
     }
 }
 
-// 16 bytes for each kind.
+// As many bytes for each kind.
+const NAME: usize = 14;
+
 fn write_name(names: &[u8], kind: usize) {
-    let a = clip(product(kind, 16), names.len());
+    let a = clip(product(kind, NAME), names.len());
     let rest = &names[a..];
-    let n = clip(16, rest.len());
+    let n = clip(NAME, rest.len());
     io::write_all(STDOUT_FILENO, &rest[..n]);
 }
 
@@ -60,10 +68,10 @@ fn write_count(n: usize, number: usize) {
 }
 
 fn write_counts(tally: [usize; 16]) {
-    for number in 0usize..15 {
+    for number in 0usize..DIFFER {
         write_count(tally[number], number);
     }
-    io::print_decimal(STDOUT_FILENO, tally[15] as u64);
+    io::print_decimal(STDOUT_FILENO, tally[DIFFER] as u64);
     io::write_all(STDOUT_FILENO, b" differ\n");
 }
 
@@ -78,9 +86,9 @@ fn report(kind: usize) {
 }
 
 fn main() {
-    for kind in 0usize..9 {
+    for kind in 0usize..KINDS {
         write_name(
-            b"Plan::new:      check_plan:     write_record:   read, damaged:  read, cut:      read, lent:     make_table:     derive_keys:    named cases:    ",
+            b"Plan::new:    check_plan:   write_record: read damaged: read cut:     read lent:    read marked:  make_table:   derive_keys:  named cases:  ",
             kind,
         );
         report(kind);

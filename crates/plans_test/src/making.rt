@@ -1,10 +1,13 @@
 // The table maker, for all counts up to one past the bounds: powers by repeated multiplication, and sums of whole columns.
+use crate::numbers::UNTOUCHED;
 use crate::numbers::compared;
 use crate::numbers::holds;
 use crate::numbers::planned_said;
 use crate::numbers::verdict_said;
 use crate::numbers::wrong_length;
+use crate::shapes::LEAST_WIDE;
 use crate::shapes::Shape;
+use crate::shapes::TABLE_AND_ONE;
 use crate::shapes::counts_number;
 use crate::shapes::plan_of;
 use crate::shapes::prime_number;
@@ -28,6 +31,11 @@ use testing::residue;
 use testing::seed;
 use vetting::vet;
 
+// How many moduli are primes, of how many.
+const PRIME_MODULI: usize = 12;
+
+const MODULI: usize = 18;
+
 // The first 3 leave so few powers that plans with many users leak at once.
 fn modulus(n: usize) -> usize {
     match n {
@@ -36,23 +44,31 @@ fn modulus(n: usize) -> usize {
         2 => 5,
         3 => 7,
         4 => 13,
-        5 => 17,
-        6 => 257,
-        7 => 65521,
-        8 => 0,
-        9 => 1,
-        10 => 9,
-        _ => 65535,
+        5 => 257,
+        6 => 65521,
+        7 => 65537,
+        8 => 1048583,
+        9 => 2147483647,
+        10 => 4294967279,
+        11 => 4294967291,
+        12 => 0,
+        13 => 1,
+        14 => 9,
+        15 => 65535,
+        16 => 4294967293,
+        _ => 4294967295,
     }
 }
 
+// Those below q are right, the fifth where q has more than 16 bits.
 fn generator_of(q: usize, n: usize) -> usize {
     match n {
         0 => 0,
         1 => 1,
         2 => 2,
         3 => 3,
-        4 => wrapping_sub_usize(q, 1) % 65536,
+        4 => 65536,
+        5 => wrapping_sub_usize(q, 1) % 4294967296,
         _ => q,
     }
 }
@@ -66,20 +82,29 @@ fn rate(clusters: usize, size: usize, limit: usize) -> usize {
     wrapping_sub_usize(over(relay > server, relay, server), 1)
 }
 
-// U and V from 0 to 9, T from 0 to 17, 12 moduli; with 6 generators 129,600 cases. The walk is short where there are few users or only small
-// coalitions, or where it soon leaks: other plans take a small q.
+// The counts that are tried: U and V from 0 to 9, T from 0 to 17.
+const COUNTS: usize = 1800;
+
+// All counts with all moduli; with 7 generators all cases of the maker.
+const SHAPES: usize = COUNTS * MODULI;
+
+pub const CASES: usize = SHAPES * 7;
+
+// The walk is short where there are few users or only small coalitions, or where it soon leaks: other plans take a small q.
 fn shape(number: usize) -> Shape {
     let clusters = number % 10;
     let size = number / 10 % 10;
     let limit = number / 100 % 18;
-    let n = number / 1800 % 12;
-    let small = n < 8 && limit > 2 && product(clusters, size) > 9;
+    let n = number / COUNTS % MODULI;
+    let small = n < PRIME_MODULI && limit > 2 && product(clusters, size) > 9;
+    let q = modulus(over(small, n % 3, n));
     Shape {
         clusters,
         size,
         limit,
         rate: rate(clusters, size, limit),
-        q: modulus(over(small, n % 3, n)),
+        q,
+        wide: q >= LEAST_WIDE,
     }
 }
 
@@ -111,8 +136,8 @@ fn fill_last(s: Shape, t: &mut [Symbol]) {
 }
 
 // The table of a shape that has users, and zeros; only zeros where it is not wanted.
-pub fn table(s: Shape, generator: usize, wanted: bool) -> [Symbol; 257] {
-    let mut t = [0 as Symbol; 257];
+pub fn table(s: Shape, generator: usize, wanted: bool) -> [Symbol; TABLE_AND_ONE] {
+    let mut t = [0 as Symbol; TABLE_AND_ONE];
     if wanted {
         fill_rows(s, generator, &mut t);
         fill_last(s, &mut t);
@@ -131,7 +156,7 @@ fn refusal(s: Shape, generator: usize, length: usize) -> usize {
 fn judged(s: Shape, generator: usize, t: &mut [Symbol]) -> usize {
     let first = refusal(s, generator, t.len());
     let other = table(s, generator, first == 0);
-    let n = clip(t.len(), 257);
+    let n = clip(t.len(), TABLE_AND_ONE);
     let vetted = verdict_said(vet(plan_of(s), &other[..n]));
     let number = over(first > 0, first, vetted);
     let planned = make_table(
@@ -148,7 +173,8 @@ fn judged(s: Shape, generator: usize, t: &mut [Symbol]) -> usize {
 // The right length, but for one of eight.
 pub fn made(number: usize) -> usize {
     let s = shape(number);
-    let n = clip(wrong_length(symbols(s) % 257, draw(seed(number), 16)), 257);
-    let mut t = [65535 as Symbol; 257];
-    judged(s, generator_of(s.q, number / 21600), &mut t[..n])
+    let length = wrong_length(symbols(s) % TABLE_AND_ONE, draw(seed(number), 16));
+    let n = clip(length, TABLE_AND_ONE);
+    let mut t = [UNTOUCHED; TABLE_AND_ONE];
+    judged(s, generator_of(s.q, number / SHAPES), &mut t[..n])
 }

@@ -1,12 +1,19 @@
-// Plans: their constructor and checks, and the cases that document 01 wants run: the edges of q, L and U; and one plan of the largest size.
+// Plans: their constructor and checks, and the cases that documents 01 and 02 want run: the edges of q, L and U, and of wide records; and plans of the
+// largest size.
 use crate::individual::dealt;
 use crate::making::table;
+use crate::numbers::UNTOUCHED;
 use crate::numbers::compared;
 use crate::numbers::holds;
 use crate::numbers::planned_said;
 use crate::numbers::verdict_said;
 use crate::numbers::wrong_length;
+use crate::reading::judged;
+use crate::shapes::SPOILS;
 use crate::shapes::Shape;
+use crate::shapes::TABLE;
+use crate::shapes::TABLE_AND_ONE;
+use crate::shapes::WRONG_SHAPES;
 use crate::shapes::bounds_number;
 use crate::shapes::drawn_shape;
 use crate::shapes::plan_of;
@@ -35,7 +42,7 @@ fn new_plan(s: Shape, expected: usize) -> usize {
 
 // All wrong shapes, then drawn ones.
 fn any_shape(number: usize) -> Shape {
-    if number < 144 {
+    if number < WRONG_SHAPES {
         wrong_shape(number)
     } else {
         drawn_shape(number)
@@ -65,13 +72,13 @@ fn table_checked(s: Shape, t: &[Symbol], length: usize) -> usize {
     )
 }
 
-// The table is right, too long, too short, or has a number that is no symbol.
+// The table is right, too long, too short, or has a number that may be no symbol.
 pub fn checked(number: usize) -> usize {
-    let s = any_shape(number / 12);
-    let n = clip(wrong_length(symbols(s), number % 4), 257);
-    let mut t = [0 as Symbol; 257];
+    let s = any_shape(number / 4 / SPOILS);
+    let n = clip(wrong_length(symbols(s), number % 4), TABLE_AND_ONE);
+    let mut t = [0 as Symbol; TABLE_AND_ONE];
     fill(&mut t, s.q, number);
-    spoil(&mut t, number % 256, s.q, number % 3);
+    spoil(&mut t, number % TABLE, s.q, number % SPOILS);
     table_checked(s, &t[..n], number % 70)
 }
 
@@ -95,24 +102,66 @@ fn too_many_clusters() -> usize {
 }
 
 // 16 users and the largest limit that the maker takes: all coalitions of up to 7 are gone through.
-fn largest() -> usize {
-    let s = shape_of(2080715, 65521);
+fn largest(q: usize) -> usize {
+    let s = shape_of(2080715, q);
     let other = table(s, 17, true);
     let mut t = [0 as Symbol; 240];
-    let planned = make_table(2, 8, 7, 65521, 17, &mut t);
+    let planned = make_table(2, 8, 7, narrow(q), 17, &mut t);
     compared(planned_said(planned, s), 0, holds(&t, 0, &other))
 }
 
-pub fn named(number: usize) -> usize {
+// What the reader answers to bytes that are written out. K is 4B, P 50 and Q 51.
+fn read_bytes(bytes: &[u8], expected: usize) -> usize {
+    let mut lent = [UNTOUCHED; TABLE];
+    compared(judged(bytes, &mut lent), expected, true)
+}
+
+// "D under 12 is 5": 11 and 12 in a wide trailer, then 9, 10 and 11 in an old one, each back to a first byte that is there. With 10 and 12 there is no room
+// for a symbol, and 11 is no old record's: 4. "A wide record with a smaller q is refused with 2": the largest q that is smaller, 65,521, and the least that
+// is not, 65,537.
+fn record_case(number: usize) -> usize {
+    match number {
+        0 => read_bytes(b"\x00\x01\x01\x00\x01\xfb\xff\xff\x0b\x00KQ", 5),
+        1 => read_bytes(b"\x01\x01\x00\x01\xfb\xff\xff\xff\x0c\x00KQ", 4),
+        2 => read_bytes(b"\x00\x01\x01\x00\x01\x05\x09\x00KP", 5),
+        3 => read_bytes(b"\x01\x01\x00\x01\x05\x00\x0a\x00KP", 4),
+        4 => read_bytes(b"\x01\x01\x00\x01\x05\x00\x00\x0b\x00KP", 4),
+        5 => read_bytes(
+            b"\x01\x01\x00\x01\xf1\xff\x00\x00\x01\x00\x00\x00\x10\x00KQ",
+            2,
+        ),
+        _ => read_bytes(
+            b"\x01\x01\x00\x01\x01\x00\x01\x00\x00\x00\x01\x00\x10\x00KQ",
+            0,
+        ),
+    }
+}
+
+// Whether q is taken.
+fn modulus_case(number: usize) -> usize {
     match number {
         0 => new_plan(shape_of(2020103, 65521), 0),
         1 => new_plan(shape_of(2020103, 65535), 2),
         2 => new_plan(shape_of(2020103, 1), 2),
-        3 => new_plan(shape_of(9020103, 5), 1),
-        4 => length_case(64, 0),
-        5 => length_case(65, 9),
-        6 => length_case(0, 9),
-        7 => too_many_clusters(),
-        _ => largest(),
+        3 => new_plan(shape_of(2020103, 65537), 0),
+        4 => new_plan(shape_of(2020103, 4294967291), 0),
+        5 => new_plan(shape_of(2020103, 4294967293), 2),
+        _ => new_plan(shape_of(2020103, 4294967295), 2),
+    }
+}
+
+pub const CASES: usize = 21;
+
+pub fn named(number: usize) -> usize {
+    match number {
+        0..=6 => modulus_case(number),
+        7..=13 => record_case(number - 7),
+        14 => length_case(64, 0),
+        15 => length_case(65, 9),
+        16 => length_case(0, 9),
+        17 => new_plan(shape_of(9020103, 5), 1),
+        18 => too_many_clusters(),
+        19 => largest(65521),
+        _ => largest(4294967291),
     }
 }

@@ -8,9 +8,13 @@ use refusals::Verdict;
 use testing::at;
 use testing::over;
 use testing::wide;
+use testing::wide16;
 
 // What a comparison says where the two differ; otherwise it says the number that was answered.
 pub const DIFFER: usize = 15;
+
+// What a lent table or block holds before a call, everywhere: no symbol modulo a prime.
+pub const UNTOUCHED: Symbol = 4294967295;
 
 // One too long, one too short, or right; what is empty can only be too long.
 pub fn wrong_length(n: usize, kind: usize) -> usize {
@@ -24,8 +28,8 @@ pub fn wrong_length(n: usize, kind: usize) -> usize {
 
 // A number, and 16 times its details, so that those are compared too.
 fn said(code: Code) -> usize {
-    let details = wide(code.first) % 65536 * 65536 + wide(code.second) % 65536;
-    details * 16 + wide(code.number) % 16
+    let details = wide16(code.first) % 65536 * 65536 + wide16(code.second) % 65536;
+    details * 16 + wide16(code.number) % 16
 }
 
 pub fn verdict_said(verdict: Verdict) -> usize {
@@ -52,10 +56,10 @@ pub fn compared(answer: usize, expected: usize, same: bool) -> usize {
     over(same, over(answer == expected, answer % 16, DIFFER), DIFFER)
 }
 
-// Whether a buffer holds what is wanted; where the call was refused, 65,535 everywhere, as before it.
+// Whether a table holds what is wanted; where the call was refused, what it held before.
 pub fn holds(out: &[Symbol], number: usize, want: &[Symbol]) -> bool {
     for i in 0..out.len() {
-        if at(out, i) != over(number > 0, 65535, at(want, i)) {
+        if at(out, i) != over(number > 0, wide(UNTOUCHED), at(want, i)) {
             return false;
         }
     }

@@ -2,6 +2,7 @@
 use arithmetic::Symbol;
 use plans::Plan;
 use primes::is_prime;
+use testing::PRIMES;
 use testing::draw;
 use testing::is_outside;
 use testing::narrow;
@@ -13,13 +14,27 @@ use testing::quotient;
 use testing::seed;
 use testing::step;
 
-// The counts of a plan and its q, all as numbers of one type.
+// The least q of a wide record.
+pub const LEAST_WIDE: usize = 65536;
+
+// The bytes of a record that has no symbols: of an old one, and of a wide one.
+pub const LEAST_OLD_SIZE: usize = 10;
+
+pub const LEAST_WIDE_SIZE: usize = 12;
+
+// The symbols of the largest table, and places for one more, so that a table can be too long.
+pub const TABLE: usize = 256;
+
+pub const TABLE_AND_ONE: usize = 257;
+
+// The counts of a plan and its q, all as numbers of one type. Its record is wide by its q, but where a test writes or reads it otherwise.
 pub struct Shape {
     pub clusters: usize,
     pub size: usize,
     pub limit: usize,
     pub rate: usize,
     pub q: usize,
+    pub wide: bool,
 }
 
 pub fn users(s: Shape) -> usize {
@@ -31,7 +46,8 @@ pub fn symbols(s: Shape) -> usize {
 }
 
 pub fn record_size(s: Shape) -> usize {
-    symbols(s) % 65536 * 2 + 10
+    let n = symbols(s) % 65536;
+    over(s.wide, n * 4 + LEAST_WIDE_SIZE, n * 2 + LEAST_OLD_SIZE)
 }
 
 // Bounds: U and V from 1 to 8, U V at most 16, T from 0 to U V.
@@ -68,12 +84,14 @@ pub fn drawn_shape(number: usize) -> Shape {
     let clusters = draw(x, 8) % 8 + 1;
     let most = quotient(16, clusters);
     let size = draw(y, over(most > 8, 8, most)) % 8 + 1;
+    let q = prime(draw(seed(z), PRIMES));
     Shape {
         clusters,
         size,
         limit: draw(z, product(clusters, size) + 1),
         rate: draw(step(z), 16) % 16 + 1,
-        q: prime(draw(seed(z), 8)),
+        q,
+        wide: q >= LEAST_WIDE,
     }
 }
 
@@ -88,6 +106,7 @@ pub fn shape_of(digits: usize, q: usize) -> Shape {
         limit: over(limit == 99, 18446744073709551615, limit),
         rate: digits % 100,
         q,
+        wide: q >= LEAST_WIDE,
     }
 }
 
@@ -113,31 +132,45 @@ fn counts(n: usize) -> usize {
     }
 }
 
-// The first 4 are primes.
+// The first 8 are primes, 4 of each width. Of the others one is the square of the largest prime of 16 bits.
 fn modulus(n: usize) -> usize {
     match n {
         0 => 2,
         1 => 5,
         2 => 257,
         3 => 65521,
-        4 => 0,
-        5 => 1,
-        6 => 4,
-        7 => 9,
-        _ => 65535,
+        4 => 65537,
+        5 => 2147483647,
+        6 => 4294967279,
+        7 => 4294967291,
+        8 => 0,
+        9 => 1,
+        10 => 9,
+        11 => 65535,
+        12 => 65536,
+        13 => 4293001441,
+        14 => 4294967293,
+        _ => 4294967295,
     }
 }
 
-// 16 counts with 9 moduli: 144.
+// 16 counts with 16 moduli.
+pub const WRONG_SHAPES: usize = 256;
+
 pub fn wrong_shape(number: usize) -> Shape {
-    shape_of(counts(number % 16), modulus(number / 16 % 9))
+    shape_of(counts(number % 16), modulus(number / 16 % 16))
 }
 
-// One symbol becomes q or the largest number, or stays.
+// How many kinds of symbols `spoil` makes, the one that it leaves among them.
+pub const SPOILS: usize = 5;
+
+// One symbol becomes q, the largest number, or one at the edge of 16 bits, which is right for a larger q; or it stays.
 pub fn spoil(t: &mut [Symbol], place: usize, q: usize, kind: usize) {
     match kind {
         0 => put(t, place, q),
-        1 => put(t, place, 65535),
+        1 => put(t, place, 4294967295),
+        2 => put(t, place, 65535),
+        3 => put(t, place, 65536),
         _ => {}
     }
 }

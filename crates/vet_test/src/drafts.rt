@@ -1,8 +1,12 @@
 // Plans drawn from a seed, and their records.
+use crate::numbers::OLD;
+use crate::numbers::WIDE;
 use crate::numbers::after;
 use crate::numbers::before;
 use crate::numbers::from_one;
+use crate::numbers::put_number;
 use crate::numbers::put_word;
+use testing::PRIMES;
 use testing::draw;
 use testing::prime;
 use testing::product;
@@ -20,6 +24,17 @@ pub struct Draft {
     seed: usize,
 }
 
+// Of the primes that testing knows, those of 16 bits; the rest are wide.
+const NARROW_PRIMES: usize = 7;
+
+// One of the first few primes, or, as often, a wide one.
+fn modulus(seed: usize, few: usize) -> usize {
+    if draw(state(seed, 8), 2) == 0 {
+        return prime(draw(state(seed, 6), few));
+    }
+    prime(NARROW_PRIMES + draw(state(seed, 6), PRIMES - NARROW_PRIMES) % PRIMES)
+}
+
 fn least(a: usize, b: usize) -> usize {
     if a < b { a } else { b }
 }
@@ -34,7 +49,7 @@ fn tiny(seed: usize) -> Draft {
         size,
         limit: draw(state(seed, 4), most),
         rate: from_one(state(seed, 5), 8),
-        q: prime(draw(state(seed, 6), 4)),
+        q: modulus(seed, 4),
         seed,
     }
 }
@@ -56,7 +71,7 @@ fn large(seed: usize) -> Draft {
         size,
         limit: large_limit(seed, product(clusters, size)),
         rate: from_one(state(seed, 5), 16),
-        q: prime(draw(state(seed, 6), 8)),
+        q: modulus(seed, NARROW_PRIMES),
         seed,
     }
 }
@@ -77,13 +92,22 @@ pub fn symbols(d: Draft) -> usize {
     product(users(d), d.rate)
 }
 
+pub fn width(d: Draft) -> usize {
+    if d.q < 65536 { OLD } else { WIDE }
+}
+
+// Where the first symbol stands.
+pub fn head(d: Draft) -> usize {
+    after(4, width(d))
+}
+
 pub fn record_size(d: Draft) -> usize {
-    after(product(symbols(d), 2), 10)
+    after(product(symbols(d), width(d)), after(4, head(d)))
 }
 
 // Symbol n of all rows but the last.
 fn free_symbol(d: Draft, n: usize) -> usize {
-    draw(state(d.seed, 16 + n % 256), d.q)
+    residue(state(d.seed, 16 + n % 256), d.q)
 }
 
 // The sum of a column's symbols but the last row's.
@@ -110,15 +134,15 @@ fn write_head(d: Draft, bytes: &mut [u8], first: usize) {
     put_byte(bytes, after(first, 1), d.size);
     put_byte(bytes, after(first, 2), d.limit);
     put_byte(bytes, after(first, 3), d.rate);
-    put_word(bytes, after(first, 4), d.q);
+    put_number(bytes, after(first, 4), width(d), d.q);
 }
 
 fn write_symbols(d: Draft, bytes: &mut [u8], from: usize) {
     let count = symbols(d);
     let mut i = from;
     for n in 0..count {
-        put_word(bytes, i, symbol(d, n));
-        i = after(i, 2);
+        put_number(bytes, i, width(d), symbol(d, n));
+        i = after(i, width(d));
     }
 }
 
@@ -126,8 +150,12 @@ fn write_symbols(d: Draft, bytes: &mut [u8], from: usize) {
 pub fn write(d: Draft, bytes: &mut [u8], last: usize) {
     let first = before(last, record_size(d));
     write_head(d, bytes, first);
-    write_symbols(d, bytes, after(first, 6));
+    write_symbols(d, bytes, after(first, head(d)));
     put_word(bytes, before(last, 4), record_size(d));
     put_byte(bytes, before(last, 2), 75);
-    put_byte(bytes, before(last, 1), 80);
+    put_byte(
+        bytes,
+        before(last, 1),
+        if width(d) == OLD { 80 } else { 81 },
+    );
 }

@@ -2,24 +2,28 @@
 // An input is made of its number alone, so that each can be looked at by itself.
 use crate::drafts::Draft;
 use crate::drafts::drawn;
+use crate::drafts::head;
 use crate::drafts::record_size;
 use crate::drafts::symbols;
+use crate::drafts::width;
 use crate::drafts::write;
 use crate::numbers::after;
 use crate::numbers::before;
 use crate::numbers::from_one;
+use crate::numbers::put_number;
 use crate::numbers::put_word;
 use testing::byte_at;
 use testing::draw;
 use testing::fill_bytes;
 use testing::product;
 use testing::put_byte;
+use testing::residue;
 use testing::state;
 
 // The bytes of the buffer, and the place from which it is filled anew for each input; before that it is 0.
 pub const BUFFER: usize = 65536;
 
-const FILLED: usize = 64960;
+const FILLED: usize = 64400;
 
 // The part of the buffer that is the input, and that which was written as a record.
 pub struct Input {
@@ -70,16 +74,18 @@ fn between(start: usize, end: usize, i: Input) -> Input {
 fn distance(i: Input, x: usize) -> usize {
     let size = before(i.last, i.first);
     let length = before(i.end, i.start);
-    match draw(x, 10) {
+    match draw(x, 12) {
         0 => 0,
         1 => 9,
         2 => 10,
-        3 => before(size, 1),
-        4 => after(size, 1),
-        5 => before(size, 2),
-        6 => after(size, 2),
-        7 => length,
-        8 => after(length, 1),
+        3 => 11,
+        4 => 12,
+        5 => before(size, 1),
+        6 => after(size, 1),
+        7 => before(size, 2),
+        8 => after(size, 2),
+        9 => length,
+        10 => after(length, 1),
         _ => 65535,
     }
 }
@@ -100,9 +106,9 @@ fn count(x: usize) -> usize {
     }
 }
 
-// Primes and others, squares of primes among them.
+// Primes and others, squares of primes among them, of both widths.
 fn modulus(x: usize) -> usize {
-    match draw(x, 12) {
+    match draw(x, 20) {
         0 => 0,
         1 => 1,
         2 => 2,
@@ -114,6 +120,14 @@ fn modulus(x: usize) -> usize {
         8 => 65520,
         9 => 65521,
         10 => 65535,
+        11 => 65536,
+        12 => 65537,
+        13 => 131071,
+        14 => 4293001441,
+        15 => 4294967279,
+        16 => 4294967291,
+        17 => 4294967293,
+        18 => 4294967295,
         _ => draw(x / 16, 300),
     }
 }
@@ -124,7 +138,8 @@ fn number(q: usize, x: usize) -> usize {
         0 => q,
         1 => after(q, 1),
         2 => 65535,
-        _ => draw(x / 16, q),
+        3 => 4294967295,
+        _ => residue(x, q),
     }
 }
 
@@ -159,14 +174,24 @@ fn change_count(bytes: &mut [u8], i: Input, x: usize) {
     put_byte(bytes, after(i.first, draw(x, 4)), count(state(x, 1)));
 }
 
-fn change_modulus(bytes: &mut [u8], i: Input, x: usize) {
-    put_word(bytes, after(i.first, 4), modulus(x));
+// The other kind's mark over the same bytes.
+fn turn_mark(bytes: &mut [u8], i: Input) {
+    let place = before(i.last, 1);
+    put_byte(
+        bytes,
+        place,
+        if byte_at(bytes, place) == 80 { 81 } else { 80 },
+    );
+}
+
+fn change_modulus(d: Draft, bytes: &mut [u8], i: Input, x: usize) {
+    put_number(bytes, after(i.first, 4), width(d), modulus(x));
 }
 
 fn change_symbol(d: Draft, bytes: &mut [u8], i: Input, x: usize) {
-    let place = after(i.first, 6);
     let n = draw(x, symbols(d));
-    put_word(bytes, after(place, product(n, 2)), number(d.q, state(x, 1)));
+    let place = after(after(i.first, head(d)), product(n, width(d)));
+    put_number(bytes, place, width(d), number(d.q, state(x, 1)));
 }
 
 // Changes bytes of the record.
@@ -177,7 +202,8 @@ fn change(d: Draft, bytes: &mut [u8], i: Input, kind: usize, x: usize) {
         2 => change_distance(bytes, i, x),
         3 => change_mark(bytes, i, x),
         4 => change_count(bytes, i, x),
-        5 => change_modulus(bytes, i, x),
+        5 => change_modulus(d, bytes, i, x),
+        6 => turn_mark(bytes, i),
         _ => change_symbol(d, bytes, i, x),
     }
 }
@@ -196,7 +222,15 @@ fn cut(i: Input, kind: usize, x: usize) -> Input {
 fn unmake(bytes: &mut [u8], i: Input, x: usize) -> Input {
     fill(bytes, x);
     put_word(bytes, BUFFER - 4, draw(x, 64));
-    put_word(bytes, BUFFER - 2, 20555);
+    put_word(
+        bytes,
+        BUFFER - 2,
+        if draw(state(x, 2), 2) == 0 {
+            20555
+        } else {
+            20811
+        },
+    );
     between(before(BUFFER, draw(state(x, 1), 64)), BUFFER, i)
 }
 

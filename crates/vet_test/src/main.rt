@@ -19,7 +19,8 @@ fn compared(t: Tally, bytes: &[u8]) -> Tally {
     let line = reports::vet_line(bytes);
     let code = refusals::verdict_code(reports::vet_record(bytes));
     let same = text::says(line, expected) && text::same_code(code, expected);
-    t.count(expected.number, same)
+    t.count_wide(second::is_wide(bytes))
+        .count(expected.number, same)
 }
 
 // An input outside the buffer would be a fault of this test: 99 counts it as different.

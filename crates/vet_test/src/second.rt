@@ -1,14 +1,19 @@
 // The second implementation, from bytes to verdict: its own trailer, counts, primes, symbols and columns, in the order of document 01.
 // Only whether a plan leaks is asked of the library; another test holds that to a count.
 ghost use Prim.Native.Nat.{_≤_};
+use crate::numbers::OLD;
+use crate::numbers::WIDE;
 use crate::numbers::after;
 use crate::numbers::before;
 use crate::numbers::joined;
+use crate::numbers::number_at;
+use arithmetic::Symbol;
 use plans::Plan;
 use refusals::Code;
 use testing::byte_at;
-use testing::divisors;
+use testing::is_prime;
 use testing::narrow;
+use testing::narrow16;
 use testing::product;
 use testing::put;
 use testing::residue;
@@ -21,6 +26,7 @@ struct Head {
     limit: usize,
     rate: usize,
     q: usize,
+    width: usize,
     table: usize,
 }
 
@@ -32,6 +38,20 @@ fn plain(number: u16) -> Code {
     }
 }
 
+// The bytes of a symbol that the mark says, and 0 where it is no mark: the marks are 504B and 514B, high byte first.
+fn width(mark: usize) -> usize {
+    match mark {
+        0x504b => OLD,
+        0x514b => WIDE,
+        _ => 0,
+    }
+}
+
+// Whether the input ends as a wide record does.
+pub fn is_wide(bytes: &[u8]) -> bool {
+    width(word_at(bytes, before(bytes.len(), 2))) == WIDE
+}
+
 // The distance in the trailer, and 0 where the trailer is wrong. Its four bytes are one number of 32 bits, of which the mark is the upper half.
 fn distance(bytes: &[u8]) -> usize {
     let n = bytes.len();
@@ -39,24 +59,27 @@ fn distance(bytes: &[u8]) -> usize {
         return 0;
     }
     let trailer = joined(word_at(bytes, n - 4), word_at(bytes, n - 2));
-    if trailer / 65536 != 0x504b {
+    let w = width(trailer / 65536);
+    if w == 0 {
         return 0;
     }
     let d = trailer % 65536;
     if n < d {
         return 0;
     }
-    if d < 10 { 0 } else { d }
+    if d < after(8, w) { 0 } else { d }
 }
 
 fn read_head(bytes: &[u8], start: usize) -> Head {
+    let width = if is_wide(bytes) { WIDE } else { OLD };
     Head {
         clusters: byte_at(bytes, start),
         size: byte_at(bytes, after(start, 1)),
         limit: byte_at(bytes, after(start, 2)),
         rate: byte_at(bytes, after(start, 3)),
-        q: word_at(bytes, after(start, 4)),
-        table: after(start, 6),
+        q: number_at(bytes, after(start, 4), width),
+        width,
+        table: after(start, after(4, width)),
     }
 }
 
@@ -85,7 +108,7 @@ fn broken(h: Head) -> usize {
 }
 
 fn symbol(bytes: &[u8], h: Head, n: usize) -> usize {
-    word_at(bytes, after(h.table, product(n, 2)))
+    number_at(bytes, after(h.table, product(n, h.width)), h.width)
 }
 
 // How many symbols are q or more.
@@ -125,7 +148,7 @@ fn first_column(bytes: &[u8], h: Head) -> usize {
     first
 }
 
-fn copy(bytes: &[u8], h: Head, table: &mut [u16]) {
+fn copy(bytes: &[u8], h: Head, table: &mut [Symbol]) {
     for n in 0..table.len() {
         put(table, n, symbol(bytes, h, n));
     }
@@ -149,14 +172,14 @@ fn leak_only(code: Code) -> Code {
     if code.number == 7 { code } else { plain(99) }
 }
 
-fn vet_table(bytes: &[u8], h: Head, table: &mut [u16]) -> Code {
+fn vet_table(bytes: &[u8], h: Head, table: &mut [Symbol]) -> Code {
     copy(bytes, h, table);
     leak_only(refusals::verdict_code(vetting::vet(plan(h), table)))
 }
 
 fn leak(bytes: &[u8], h: Head) -> Code {
     let n = symbols(h);
-    let mut table = [0u16; 256];
+    let mut table = [0 as Symbol; 256];
     if n > 256 {
         return plain(99);
     }
@@ -172,7 +195,7 @@ fn verdict_on_table(bytes: &[u8], h: Head) -> Code {
     if column != 0 {
         return Code {
             number: 6,
-            first: narrow(column),
+            first: narrow16(column),
             second: 0,
         };
     }
@@ -192,10 +215,10 @@ pub fn verdict(bytes: &[u8]) -> Code {
     if broken(h) != 0 {
         return plain(1);
     }
-    if d != after(product(symbols(h), 2), 10) {
+    if d != after(product(symbols(h), h.width), after(8, h.width)) {
         return plain(4);
     }
-    if divisors(h.q) != 2 {
+    if !is_prime(h.q) || (h.width == WIDE && h.q / 65536 == 0) {
         return plain(2);
     }
     verdict_on_table(bytes, h)

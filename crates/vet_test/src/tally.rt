@@ -4,6 +4,7 @@ use std::num::wrapping_add_u64;
 
 pub struct Tally {
     inputs: u64,
+    wide: u64,
     differ: u64,
     numbers: [u64; 8],
 }
@@ -11,12 +12,21 @@ pub struct Tally {
 pub fn none() -> Tally {
     Tally {
         inputs: 0,
+        wide: 0,
         differ: 0,
         numbers: [0; 8],
     }
 }
 
 impl Tally {
+    // One input that ends as a wide record does.
+    pub fn count_wide(mut self, wide: bool) -> Tally {
+        if wide {
+            self.wide = wrapping_add_u64(self.wide, 1);
+        }
+        self
+    }
+
     // One input more, with its number and whether all agree on it. A number that no plan gets is counted as different.
     pub fn count(mut self, number: u16, same: bool) -> Tally {
         self.inputs = wrapping_add_u64(self.inputs, 1);
@@ -55,6 +65,7 @@ fn write_vet(n: [u64; 8]) {
 pub fn write(t: Tally) {
     let n = t.numbers;
     write_count(b"inputs: ", t.inputs);
+    write_count(b"wide marks: ", t.wide);
     write_reader(n);
     write_vet(n);
     write_count(b"differ: ", t.differ);

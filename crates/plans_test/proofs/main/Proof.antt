@@ -4,10 +4,10 @@ use Rattle.plans_test.proofs.main.Statement.{statement}
 use Rattle.plans_test.proofs.main.Tie as tie
 
 abbrev Inv-loop : tie.InvT-loop
-Inv-loop kind₀ t2 kind = kind ≤ 9
+Inv-loop kind₀ t2 kind = kind ≤ 10
 
 abbrev μ-loop : tie.MeasureT-loop
-μ-loop kind₀ t2 kind = 9 - kind
+μ-loop kind₀ t2 kind = 10 - kind
 
 pub main-spec : {M : Type 1} → statement M
 main-spec =

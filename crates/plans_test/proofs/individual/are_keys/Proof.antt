@@ -25,4 +25,5 @@ are-keys-spec =
     (search needs)
     (search needs)
     (search needs)
+    (search needs)
     (search needs))

@@ -24,4 +24,5 @@ key-spec =
     (search needs)
     (search needs)
     (search needs)
+    (search needs)
     (search needs))

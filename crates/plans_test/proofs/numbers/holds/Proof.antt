@@ -23,4 +23,5 @@ holds-spec =
     (search needs)
     (search needs)
     (search needs)
+    (search needs)
     (search needs))

@@ -23,4 +23,5 @@ holds-record-spec =
     (search needs)
     (search needs)
     (search needs)
+    (search needs)
     (search needs))

@@ -31,6 +31,7 @@ written-spec =
     (search needs)
     (search needs)
     (search needs)
+    (search needs)
     slice-aggregate-judged
     (search needs)
     slice-aggregate-judged-2

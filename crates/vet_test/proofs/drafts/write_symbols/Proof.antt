@@ -26,4 +26,6 @@ write-symbols-spec =
     (search needs)
     (search needs)
     (search needs)
+    (search needs)
+    (search needs)
     (search needs))
