@@ -1,17 +1,18 @@
 -- Primes of 32 bits (document 02, Q-7): the two kinds of record. That the plan's largest q is 4,294,967,291 stands in the promise of the plan's constructor,
 -- and that a plan has one record, of whichever kind, in `WrittenIsRead` and `OneRecord` (Demands), which speak of both kinds.
-use Prim.Native.Nat.{ℕ, _+_, _-_, _*_, _≤_, _<_}
+use Prim.Native.Nat.{ℕ, _+_, _-_, _*_, _^_, _≤_, _<_}
 use mathlib.Core.Path.{_≡_}
 use mathlib.Core.Logic.{_≢_}
 use mathlib.Core.Bool.{true, false}
 use mathlib.Core.List.{List, [], _∷_, _++_}
-use lib.ListN.{length}
+use lib.ListN.{length, drop}
 use Rattle.refusals.specs.Codes.{code, accepted}
+use Rattle.residues.specs.Primes.{isPrime}
 use Rattle.lists.specs.Lists.{at}
 use Rattle.plans.specs.declared.Plan.{Plan}
 use Rattle.plans.specs.Plans.{usersOf, inBounds}
 use Rattle.records.specs.Bytes.{bytesOf, bytesOfAll}
-use Rattle.records.specs.Records.{recordOf, badTrailer, distance, planRead, readCode}
+use Rattle.records.specs.Records.{recordOf, start, badTrailer, distance, planRead, tableRead, readCode, writeCode}
 
 module _ (P : Plan) (K : List ℕ) where
   -- "A plan with q of 65,536 or more has a wide record: U, V, T, R; q in four bytes; four bytes a symbol; distance; bytes 4B 51; D = 12 + 4 × U × V × R"
@@ -41,7 +42,15 @@ module _ (P : Plan) (K : List ℕ) where
       → (65536 ≤ P .q → length (recordOf P K) ≡ 12 + 4 * (usersOf P * P .rate))
       × (P .q < 65536 → length (recordOf P K) ≡ 10 + 2 * (usersOf P * P .rate))
 
+  -- "so a plan still has one record": what is written is bytes, since a symbol has 32 bits
+  abbrev pub RecordIsBytes : Type 0
+  RecordIsBytes = (out : List ℕ) → accepted ≡ writeCode P K out → P .q < 2 ^ 32 → (i : ℕ) → at (recordOf P K) i < 256
+
 module _ (B lent : List ℕ) where
+  -- and a buffer of bytes from which a plan and a table are read ends with their record
+  abbrev pub ReadIsRecord : Type 0
+  ReadIsRecord = ((i : ℕ) → at B i < 256) → accepted ≡ readCode B lent → drop (start B) B ≡ recordOf (planRead B) (tableRead B)
+
   -- "and D under 12 is 5"; under 10, as before, in an old record; and 5 for any other last byte
   abbrev pub NearTrailer : Type 0
   NearTrailer =
@@ -55,6 +64,12 @@ module _ (B lent : List ℕ) where
       badTrailer B ≡ false → at B (length B - 1) ≡ 0x51 → planRead B .q < 65536
       → inBounds (planRead B) ≡ true → distance B ≡ 12 + 4 * (usersOf (planRead B) * planRead B .rate) → length lent ≡ 256
       → readCode B lent ≡ code 2
+
+  -- and 2 is given, where q is a prime, to no other buffer of bytes
+  abbrev pub OnlySmallInWide : Type 0
+  OnlySmallInWide =
+      ((i : ℕ) → at B i < 256) → readCode B lent ≡ code 2 → isPrime (planRead B .q) ≡ true
+      → (at B (length B - 1) ≡ 0x51) × (planRead B .q < 65536)
 
   -- so what is read is of the kind that its q has
   abbrev pub KindByPrime : Type 0

@@ -3,7 +3,7 @@ use Prim.Native.Nat.{ℕ, zero, suc, _+_, _*_, _/_, _%_}
 use mathlib.Core.List.{List, [], _∷_, _++_}
 use Rattle.lists.specs.Lists.{at}
 
--- a number in so many bytes; the last is what the others leave of it
+-- a number in so many bytes; the last is what the others leave of it, a byte where the number fits
 unfoldable pub bytesOf : ℕ → ℕ → List ℕ
 bytesOf zero n = []
 bytesOf (suc zero) n = n ∷ []
