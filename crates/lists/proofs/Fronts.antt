@@ -5,7 +5,7 @@ use mathlib.Core.List.{List, [], _∷_, _++_, append-assoc}
 use native.Mathlib.Nat.{mul-le-mul}
 use native.Mathlib.Numerals.{add-one}
 use native.Mathlib.Omega.{arith}
-use lib.ListN.{length, take, drop, set, length-append, length-drop, length-set}
+use lib.ListN.{length, getD, take, drop, set, length-append, length-drop, length-set}
 use lib.Seq.{take-suc, take-suc-set, take-all, take-at, take-add, length-take-le, getD-take, getD-drop}
 use borrow.Rule.Slice.PartMut.{same-len-mid}
 use Rattle.lists.specs.Lists.{at}
@@ -22,22 +22,22 @@ length-part n b l h = length-take-le n (drop b l) (omega (arith, length-drop b l
 pub part-at : (n b : ℕ) (l : List ℕ) (k : ℕ) → k < n → at (take n (drop b l)) k ≡ at l (b + k)
 part-at n b l k h = getD-take n (drop b l) k 0 h ∙ getD-drop b l k 0
 
--- ---- T, which was T₀, has the first k numbers of W; all three are as long
+-- ---- T, which was T₀, has the first k entries of W; all three are as long
 
-pub record Front (T₀ W T : List ℕ) (k : ℕ) : Type 0 where
+pub record Front {A : Type 0} (T₀ W T : List A) (k : ℕ) : Type 0 where
   pub within : k ≤ length T
   pub whole : length T ≡ length T₀
   pub meant : length W ≡ length T₀
   pub same : take k T ≡ take k W
 
-pub front-none : (T W : List ℕ) (k : ℕ) → k ≡ 0 → length W ≡ length T → Front T W T k
-front-none T W k z e =
-    record { within = omega arith; whole = refl; meant = e; same = ap (λ (n : ℕ). take n T) z ∙ ap (λ (n : ℕ). take n W) (sym z) }
+module _ {A : Type 0} where
+  pub front-none : (T W : List A) (k : ℕ) → k ≡ 0 → length W ≡ length T → Front T W T k
+  front-none T W k z e =
+      record { within = omega arith; whole = refl; meant = e; same = ap (λ (n : ℕ). take n T) z ∙ ap (λ (n : ℕ). take n W) (sym z) }
 
-module _ (T₀ W T : List ℕ) where
-  -- one number more
-  pub front-next : (k v : ℕ) → Front T₀ W T k → k < length T → v ≡ at W k → Front T₀ W (set T k v) (k + 1)
-  front-next k v f h e =
+  -- one entry more, whatever is taken for what stands past the end of W
+  pub front-step : (T₀ W T : List A) (k : ℕ) (v d : A) → Front T₀ W T k → k < length T → v ≡ getD W k d → Front T₀ W (set T k v) (k + 1)
+  front-step T₀ W T k v d f h e =
       record {
         within = omega (arith, length-set T k v);
         whole = length-set T k v ∙ f .whole;
@@ -45,9 +45,17 @@ module _ (T₀ W T : List ℕ) where
         same =
             rw (add-one k)
             (take-suc-set T k v h
-            ∙ ap₂ (λ (x : List ℕ) (n : ℕ). x ++ (n ∷ [])) (f .same) e
-            ∙ sym (take-suc W k 0 (omega (arith, f .whole, f .meant))));
+            ∙ ap₂ (λ (x : List A) (y : A). x ++ (y ∷ [])) (f .same) e
+            ∙ sym (take-suc W k d (omega (arith, f .whole, f .meant))));
       }
+
+  pub front-whole : (T₀ W T : List A) (k : ℕ) → Front T₀ W T k → length T ≤ k → T ≡ W
+  front-whole T₀ W T k f h = sym (take-all k T h) ∙ f .same ∙ take-all k W (omega (arith, f .whole, f .meant))
+
+module _ (T₀ W T : List ℕ) where
+  -- one number more
+  pub front-next : (k v : ℕ) → Front T₀ W T k → k < length T → v ≡ at W k → Front T₀ W (set T k v) (k + 1)
+  front-next k v = front-step T₀ W T k v 0
 
   -- one part more: the k numbers from b on were lent and came back as y
   pub front-part : (b k n : ℕ) (y : List ℕ) → n ≡ b + k → Front T₀ W T b → b + k ≤ length T → y ≡ take k (drop b W)
@@ -67,6 +75,3 @@ module _ (T₀ W T : List ℕ) where
             ∙ sym (take-add b k W)
             ∙ ap (λ (m : ℕ). take m W) (sym en);
       }
-
-  pub front-whole : (k : ℕ) → Front T₀ W T k → length T ≤ k → T ≡ W
-  front-whole k f h = sym (take-all k T h) ∙ f .same ∙ take-all k W (omega (arith, f .whole, f .meant))

@@ -6,7 +6,7 @@ use mathlib.Core.Logic.{⊎-elim}
 use mathlib.Core.List.{List, [], _∷_, _++_, map, map-append, head-eq-of-cons-eq, tail-eq-of-cons-eq}
 use native.Mathlib.Nat.{zero-add, suc-add, mul-one, suc-ne-zero, suc-inj, not-suc-le-zero, le-of-suc-le-suc, lt-suc-self, zero-lt-suc, eq-or-lt-of-le}
 use native.Mathlib.Omega.{arith}
-use lib.ListN.{length, length-replicate}
+use lib.ListN.{length, getD, length-replicate}
 use lib.Seq.{ext-getD}
 use lib.Dec.{T}
 use Rattle.lists.specs.Lists.{at, All, tab, joinTo, picked, zeros}
@@ -16,30 +16,47 @@ use Rattle.lists.specs.Sums.{sumTo, howMany}
 
 -- ---- a list by its entries
 
--- an entry of a list made of its entries
-pub at-tab : (n : ℕ) (f : ℕ → ℕ) (i : ℕ) → i < n → at (tab n f) i ≡ f i
+-- an entry of a list made of its entries, whatever is taken for what stands past the end
+pub get-tab : {A : Type 0} (n : ℕ) (f : ℕ → A) (d : A) (i : ℕ) → i < n → getD (tab n f) i d ≡ f i
 unfolding tab
-at-tab zero f i h = absurd (not-suc-le-zero h)
-at-tab (suc n) f zero h = refl
-at-tab (suc n) f (suc i) h = at-tab n (λ k. f (suc k)) i (le-of-suc-le-suc h)
+get-tab zero f d i h = absurd (not-suc-le-zero h)
+get-tab (suc n) f d zero h = refl
+get-tab (suc n) f d (suc i) h = get-tab n (λ k. f (suc k)) d i (le-of-suc-le-suc h)
+
+pub at-tab : (n : ℕ) (f : ℕ → ℕ) (i : ℕ) → i < n → at (tab n f) i ≡ f i
+at-tab n f i h = get-tab n f 0 i h
 
 -- its length
-pub length-tab : (n : ℕ) (f : ℕ → ℕ) → length (tab n f) ≡ n
+pub length-tab : {A : Type 0} (n : ℕ) (f : ℕ → A) → length (tab n f) ≡ n
 unfolding tab
 length-tab zero f = refl
 length-tab (suc n) f = ap suc (length-tab n (λ k. f (suc k)))
 
 -- equal entries make equal lists
-pub tab-cong : (n : ℕ) (f g : ℕ → ℕ) → ((k : ℕ) → k < n → f k ≡ g k) → tab n f ≡ tab n g
+pub tab-cong : {A : Type 0} (n : ℕ) (f g : ℕ → A) → ((k : ℕ) → k < n → f k ≡ g k) → tab n f ≡ tab n g
 unfolding tab
 tab-cong zero f g h = refl
 tab-cong (suc n) f g h = ap₂ _∷_ (h 0 (zero-lt-suc n)) (tab-cong n (λ k. f (suc k)) (λ k. g (suc k)) (λ k l. h (suc k) (suc-le-suc l)))
 
 -- a list is made of its entries
+pub tab-get : {A : Type 0} (n : ℕ) (f : ℕ → A) (l : List A) (d : A) → length l ≡ n → ((k : ℕ) → k < n → f k ≡ getD l k d) → tab n f ≡ l
+tab-get n f l d e h =
+    ext-getD d (tab n f) l (length-tab n f ∙ sym e)
+    (λ i k. let b : i < n = subst (λ (z : ℕ). i < z) (length-tab n f) k in get-tab n f d i b ∙ h i b)
+
 pub tab-at : (n : ℕ) (f : ℕ → ℕ) (l : List ℕ) → length l ≡ n → ((k : ℕ) → k < n → f k ≡ at l k) → tab n f ≡ l
-tab-at n f l e h =
-    ext-getD 0 (tab n f) l (length-tab n f ∙ sym e)
-    (λ i k. let b : i < n = subst (λ (z : ℕ). i < z) (length-tab n f) k in at-tab n f i b ∙ h i b)
+tab-at n f l e h = tab-get n f l 0 e h
+
+-- a function of each entry
+pub map-tab : {A B : Type 0} (h : A → B) (n : ℕ) (f : ℕ → A) → map h (tab n f) ≡ tab n (λ k. h (f k))
+unfolding tab
+map-tab h zero f = refl
+map-tab h (suc n) f = ap (λ (l : List _). h (f 0) ∷ l) (map-tab h n (λ k. f (suc k)))
+
+pub map-get : {A B : Type 0} (h : A → B) (l : List A) (i : ℕ) (d : A) (e : B) → i < length l → getD (map h l) i e ≡ h (getD l i d)
+map-get h [] i d e k = absurd (not-suc-le-zero k)
+map-get h (x ∷ l) zero d e k = refl
+map-get h (x ∷ l) (suc i) d e k = map-get h l i d e (le-of-suc-le-suc k)
 
 -- the entries from m on
 pub tab-append : (m n : ℕ) (f : ℕ → ℕ) → tab (m + n) f ≡ tab m f ++ tab n (λ k. f (m + k))

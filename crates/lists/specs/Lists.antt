@@ -18,7 +18,7 @@ abbrev pub zeros : ℕ → List ℕ
 zeros n = replicate n 0
 
 -- f 0, f 1, .., f (n - 1)
-unfoldable pub tab : ℕ → (ℕ → ℕ) → List ℕ
+unfoldable pub tab : {A : Type 0} → ℕ → (ℕ → A) → List A
 tab zero f = []
 tab (suc n) f = f 0 ∷ tab n (λ k. f (suc k))
 

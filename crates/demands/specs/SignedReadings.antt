@@ -1,0 +1,114 @@
+-- Loads that run backwards (document 02, Q-1): a plan P with a cap m. The promises of `signed_upload`, `signed_unmask` and `show_totals` (signed) are
+-- `signedUploadCode`, `signedUploadAfter` and so on, which the statements name.
+use Prim.Native.Nat.{ℕ, suc, _+_, _*_, _≤_, _<_}
+use mathlib.Core.Path.{_≡_}
+use mathlib.Core.Logic.{_≢_, _↔_}
+use mathlib.Core.Bool.{true, false}
+use mathlib.Core.List.{List, map}
+use lib.Dec.{T}
+use lib.IntN.{ℤ, pos, negℤ, _+ℤ_}
+use lib.Signed.{_≤ℤ_, _<ℤ_}
+use lib.ListN.{length, take, drop}
+use Rattle.refusals.specs.Codes.{accepted, firstOf}
+use Rattle.lists.specs.Lists.{tab}
+use Rattle.secrecy.specs.Model.{upload, ZeroSum, inEither, setView, view}
+use Rattle.secrecy.specs.Leaks.{longest, PairLeak, JointLeak}
+use Rattle.plans.specs.declared.Plan.{Plan}
+use Rattle.plans.specs.Plans.{usersOf, planCode, lengthFits}
+use Rattle.vetting.specs.Pools.{poolOf}
+use Rattle.vetting.specs.declared.Pair.{Pair}
+use Rattle.vetting.specs.Walk.{pairs, InWalk, First}
+use Rattle.vetting.specs.Vet.{otherChecks, vetCode}
+use Rattle.keys.specs.Keys.{keysOf}
+use Rattle.rounds.specs.Ledger.{Frame}
+use Rattle.rounds.specs.Rounds.{runOf, sumsAfter}
+use Rattle.rounds.specs.Relays.{Event}
+use Rattle.signed.specs.Numbers.{symbolOf, shownOf, trueSum, signedReading}
+use Rattle.signed.specs.Caps.{capFits, inCap, allInCap}
+use Rattle.signed.specs.SignedBlocks.{signedUploadCode, signedUploadOf, signedUnmaskCode, signedUnmaskAfter, totalsCode, totalsAfter}
+use Rattle.signed.specs.SignedLeaks.{SignedAgrees, Capped, signedShowing, SignedPairLeak, SignedJointLeak}
+use Rattle.demands.specs.Demands.{opening, opens, AllHeard}
+
+-- "a reading is a signed number from −m to m"
+abbrev pub CapMeans : Type 0
+CapMeans = (m : ℕ) (w : ℤ) → T (inCap m w) ↔ ((negℤ (pos m) ≤ℤ w) × (w ≤ℤ pos m))
+
+-- "With q 65,521 and 16 meters m may be 2,047 and not 2,048."
+abbrev pub CapOfSixteen : Type 0
+CapOfSixteen = (P : Plan) → P .q ≡ 65521 → usersOf P ≡ 16 → (capFits P 2047 ≡ true) × (capFits P 2048 ≡ false)
+
+module _ (P : Plan) (m : ℕ) (cap : capFits P m ≡ true) where
+  -- "A negative reading w travels as q + w.": inside the cap, both ends included; any other reading as itself; what travels is a symbol
+  abbrev pub Travels : Type 0
+  Travels =
+      0 < usersOf P → (w : ℤ) → T (inCap m w)
+      → (symbolOf (P .q) w < P .q)
+      × (w <ℤ pos 0 → pos (symbolOf (P .q) w) ≡ pos (P .q) +ℤ w)
+      × (pos 0 ≤ℤ w → pos (symbolOf (P .q) w) ≡ w)
+
+  -- and is shown as the reading
+  abbrev pub ThereAndBack : Type 0
+  ThereAndBack = 0 < usersOf P → (w : ℤ) → T (inCap m w) → shownOf (P .q) (symbolOf (P .q) w) ≡ w
+
+  module _ (K : List ℕ) (L : ℕ) (R : List ℤ) (N : List ℕ) where
+    -- the readings as they travel
+    abbrev W : List ℕ
+    W = map (symbolOf (P .q)) R
+
+    -- what signed_upload writes for user i is document 000's upload (25) of the readings as they travel
+    abbrev pub SignedUploadsAre : Type 0
+    SignedUploadsAre =
+        0 < P .q → length R ≡ usersOf P * L → (i : ℕ) → i < usersOf P
+        → signedUploadOf P m L (take L (drop (i * L) R)) (take L (drop (i * L) (keysOf P K L N))) ≡ tab L (upload (poolOf P K) L W N i)
+
+    -- "Where demand 2 gives the total, the shown one equals the true sum of the readings.": over demand 2's own hypotheses (Demands, TotalIsSum). What the
+    -- server gives out into any buffer of L symbols is shown into any buffer of L numbers, without a refusal, as the true sums
+    abbrev pub ShownIsTrue : Type 0
+    ShownIsTrue =
+        (round : ℕ) → accepted ≡ planCode P → length R ≡ usersOf P * L → T (allInCap m R)
+        → ZeroSum (poolOf P K) → opens P K L W N round true
+        → (first : ℕ → ℕ) (events : ℕ → List Event) (frames : List Frame) → AllHeard P K L W N round first events frames
+        → (out : List ℕ) (shown : List ℤ) → length out ≡ L → length shown ≡ L
+        → (accepted ≡ totalsCode P m L (sumsAfter (P .clusters) true (runOf (P .clusters) true (opening P K L W N round) frames) out) shown)
+        × (totalsAfter P m L (sumsAfter (P .clusters) true (runOf (P .clusters) true (opening P K L W N round) frames) out) shown
+        ≡ tab L (λ p. trueSum (usersOf P) (λ i. signedReading L R i p)))
+
+  -- "Secrecy is claimed, and leaking is judged, over all symbols as before, and the same verdict is shown right over the readings inside each cap that 16
+  -- doesn't refuse.": a pair leaks among the readings inside the cap exactly where it leaks, and so does a joint observer
+  module _ (K : List ℕ) (others : accepted ≡ firstOf (otherChecks P K)) where
+    abbrev pub LeaksAlike : Type 0
+    LeaksAlike = (g w : ℕ) → InWalk P g w → PairLeak (poolOf P K) g w ↔ SignedPairLeak (poolOf P K) m g w
+
+    abbrev pub JointLeaksAlike : Type 0
+    JointLeaksAlike = (u w g : ℕ) → JointLeak (poolOf P K) u w g ↔ SignedJointLeak (poolOf P K) m u w g
+
+    -- so 7 is given exactly where some pair leaks inside the cap, and names the first
+    abbrev pub RefusedIffSignedLeaks : Type 0
+    RefusedIffSignedLeaks = _≡_ {A = ℕ} (vetCode P K .number) 7 ↔ ((g : ℕ) × (w : ℕ) × InWalk P g w × SignedPairLeak (poolOf P K) m g w)
+
+    abbrev pub NamesFirstSigned : Type 0
+    NamesFirstSigned =
+        (p : Pair)
+        → (vetCode P K ≡ record { number = 7; first = p .coalition; second = p .observer })
+        ↔ First (λ p. SignedPairLeak (poolOf P K) m (p .coalition) (p .observer)) (pairs (P .clusters) (P .size) (P .limit)) p
+
+  -- and an accepted plan has equal numbers for readings that agree as signed numbers
+  abbrev pub SignedEqualNumbers : Type 0
+  SignedEqualNumbers =
+      (K : List ℕ) → accepted ≡ vetCode P K
+      → (g w : ℕ) → InWalk P g w
+      → (L : ℕ) → 1 ≤ L → L ≤ longest
+      → (R R′ : List ℤ) → Capped (poolOf P K) m L R → Capped (poolOf P K) m L R′ → SignedAgrees (poolOf P K) g w L R R′
+      → (s : List ℕ)
+      → signedShowing (poolOf P K) (view (poolOf P K) g w) L R s ≡ signedShowing (poolOf P K) (view (poolOf P K) g w) L R′ s
+
+-- "Taking a key off shows the reading likewise, and never gives 15.": where signed readings are uploaded, taking the key off what is sent is not refused, and
+-- writes the readings; and whatever is handed over, the answer is not 15
+abbrev pub SignedUnmasks : Type 0
+SignedUnmasks =
+    (P : Plan) (m L : ℕ) (R : List ℤ) (key out : List ℕ) (back : List ℤ) → accepted ≡ signedUploadCode P m L R key out → length back ≡ L
+    → (accepted ≡ signedUnmaskCode P m L (signedUploadOf P m L R key) key back)
+    × (signedUnmaskAfter P m L (signedUploadOf P m L R key) key back ≡ R)
+
+abbrev pub NeverOutside : Type 0
+NeverOutside = (P : Plan) (m L : ℕ) (upload key : List ℕ) (out : List ℤ) → signedUnmaskCode P m L upload key out .number ≢ 15

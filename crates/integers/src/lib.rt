@@ -1,0 +1,1 @@
+// Laws of integers and of their bits. There is no code here.
