@@ -1,6 +1,6 @@
 -- Loads that run backwards (document 02, Q-1): a plan P with a cap m. The promises of `signed_upload`, `signed_unmask` and `show_totals` (signed) are
 -- `signedUploadCode`, `signedUploadAfter` and so on, which the statements name.
-use Prim.Native.Nat.{ℕ, suc, _+_, _*_, _≤_, _<_}
+use Prim.Native.Nat.{ℕ, _*_, _≤_, _<_}
 use mathlib.Core.Path.{_≡_}
 use mathlib.Core.Logic.{_≢_, _↔_}
 use mathlib.Core.Bool.{true, false}
@@ -11,10 +11,10 @@ use lib.Signed.{_≤ℤ_, _<ℤ_}
 use lib.ListN.{length, take, drop}
 use Rattle.refusals.specs.Codes.{accepted, firstOf}
 use Rattle.lists.specs.Lists.{tab}
-use Rattle.secrecy.specs.Model.{upload, ZeroSum, inEither, setView, view}
+use Rattle.secrecy.specs.Model.{upload, ZeroSum, view}
 use Rattle.secrecy.specs.Leaks.{longest, PairLeak, JointLeak}
 use Rattle.plans.specs.declared.Plan.{Plan}
-use Rattle.plans.specs.Plans.{usersOf, planCode, lengthFits}
+use Rattle.plans.specs.Plans.{usersOf, planCode}
 use Rattle.vetting.specs.Pools.{poolOf}
 use Rattle.vetting.specs.declared.Pair.{Pair}
 use Rattle.vetting.specs.Walk.{pairs, InWalk, First}
@@ -77,7 +77,7 @@ module _ (P : Plan) (m : ℕ) (cap : capFits P m ≡ true) where
   -- doesn't refuse.": a pair leaks among the readings inside the cap exactly where it leaks, and so does a joint observer
   module _ (K : List ℕ) (others : accepted ≡ firstOf (otherChecks P K)) where
     abbrev pub LeaksAlike : Type 0
-    LeaksAlike = (g w : ℕ) → InWalk P g w → PairLeak (poolOf P K) g w ↔ SignedPairLeak (poolOf P K) m g w
+    LeaksAlike = (g w : ℕ) → PairLeak (poolOf P K) g w ↔ SignedPairLeak (poolOf P K) m g w
 
     abbrev pub JointLeaksAlike : Type 0
     JointLeaksAlike = (u w g : ℕ) → JointLeak (poolOf P K) u w g ↔ SignedJointLeak (poolOf P K) m u w g

@@ -16,7 +16,7 @@ use Rattle.lists.specs.Lists.{at}
 pub row-fits : (rows cols j n : ℕ) → j < rows → n ≡ rows * cols → j * cols + cols ≤ n
 row-fits rows cols j n h e = omega (arith, mul-le-mul {n₁ = suc j} {m₁ = cols} {n₂ = rows} {m₂ = cols} h (omega arith))
 
-pub length-part : (n b : ℕ) (l : List ℕ) → b + n ≤ length l → length (take n (drop b l)) ≡ n
+pub length-part : {A : Type 0} (n b : ℕ) (l : List A) → b + n ≤ length l → length (take n (drop b l)) ≡ n
 length-part n b l h = length-take-le n (drop b l) (omega (arith, length-drop b l))
 
 pub part-at : (n b : ℕ) (l : List ℕ) (k : ℕ) → k < n → at (take n (drop b l)) k ≡ at l (b + k)

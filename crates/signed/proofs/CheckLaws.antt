@@ -4,7 +4,6 @@ use mathlib.Core.Path.{_≡_, sym, ap, _∙_}
 use mathlib.Core.Logic.{_≢_}
 use mathlib.Core.Bool.{Bool, true, false, not, _&&_}
 use mathlib.Core.List.{List, [], _∷_, _++_}
-use native.Mathlib.Omega.{arith}
 use lib.ListN.{length}
 use lib.Dec.{T, eqb, eqb→eq}
 use lib.IntN.{ℤ}
@@ -18,7 +17,7 @@ use Rattle.lists.proofs.Searches.{T-and, true→T}
 use Rattle.residues.specs.Primes.{isPrime, allBelow}
 use Rattle.residues.proofs.PrimeLaws.{prime-pos, true-prime}
 use Rattle.plans.specs.declared.Plan.{Plan}
-use Rattle.plans.specs.Plans.{inBounds, lengthFits}
+use Rattle.plans.specs.Plans.{inBounds, lengthFits, planChecks, planCode}
 use Rattle.plans.proofs.PlanBounds.{bounds-known, some-users}
 use Rattle.signed.specs.Caps.{capFits, allInCap}
 use Rattle.signed.specs.SignedBlocks.{capChecks, signedUploadChecks, signedUploadCode, signedUnmaskChecks, signedUnmaskCode, totalsChecks, totalsCode}
@@ -65,6 +64,12 @@ shape P m L b p c l =
       cap = not-false (capFits P m) c;
       fits = not-false (lengthFits L) l;
     }
+
+-- a plan that its constructor makes, with a cap and a length
+pub plan-shape : (P : Plan) (m L : ℕ) → accepted ≡ planCode P → capFits P m ≡ true → lengthFits L ≡ true → Shape P m L
+plan-shape P m L e c l =
+    let w = none-holds (planChecks P) tt e in
+    record { bounds = not-false (inBounds P) (w .0); prime = not-false (isPrime (P .q)) (w .1 .0); cap = c; fits = l }
 
 module _ {P : Plan} {m L : ℕ} (s : Shape P m L) where
   pub positive : 0 < P .q

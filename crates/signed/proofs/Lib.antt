@@ -1,3 +1,6 @@
 pub mod NumberLaws
 pub mod CapLaws
 pub mod CheckLaws
+pub mod Totals
+pub mod SignedLaws
+pub mod Secrecy

@@ -1,11 +1,11 @@
 -- Laws of the mapping between signed numbers and symbols, and of the sums that the code makes of them.
 use Prim.Native.Nat.{ℕ, suc, _+_, _-_, _*_, _^_, _≤_, _<_}
-use mathlib.Core.Path.{_≡_, refl, sym, ap}
+use mathlib.Core.Path.{_≡_, refl, sym}
 use mathlib.Core.Bool.{Bool, true, false, cond}
 use native.Mathlib.Omega.{arith}
-use lib.Dec.{T, ltb}
+use lib.Dec.{T, ltb, ltb→lt}
 use lib.IntN.{ℤ, pos, negsuc, _+ℤ_, _-ℤ_, natAbs}
-use lib.Signed.{ltZ, nonNeg}
+use lib.Signed.{ltZ, nonNeg, _≤ℤ_, _<ℤ_}
 use borrow.Author.Tests.{ltb-true, lt-ltb, le-ltb}
 use mir.Syntax.{w32, w64}
 use mir.Val.{SFits}
@@ -81,6 +81,11 @@ module _ (q : ℕ) where
   pub travels-symbol : (w : ℤ) → natAbs w < q → travels q w ≡ pos (symbolOf q w)
   travels-symbol (pos n) h = rw (lt-ltb n q h)
   travels-symbol (negsuc k) h = rw (le-ltb q (suc k) (omega arith), lt-ltb (q - suc k) q (omega arith))
+
+  -- "A negative reading w travels as q + w", and any other as itself
+  pub symbol-is : (w : ℤ) → natAbs w < q → (w <ℤ pos 0 → pos (symbolOf q w) ≡ pos q +ℤ w) × (pos 0 ≤ℤ w → pos (symbolOf q w) ≡ w)
+  symbol-is (pos n) h = ((λ l. absurd (omega (arith, ltb→lt n 0 (l .lt)))), (λ l. sym (travels-symbol (pos n) h)))
+  symbol-is (negsuc k) h = ((λ l. sym (travels-symbol (negsuc k) h)), (λ l. absurd (l .le)))
 
   -- the symbol of any number is one
   pub symbol-below : (w : ℤ) → 0 < q → symbolOf q w < q

@@ -1,5 +1,5 @@
--- When a pair of coalition and observer leaks among the readings inside a cap: as a leak is among all symbols (secrecy, Leaks), but for sets of signed readings,
--- which agree as signed numbers and travel as symbols.
+-- When a pair of coalition and observer leaks among the readings inside a cap: as a leak is among all symbols (secrecy, Leaks), but for sets of signed
+-- readings, which agree as signed numbers and travel as symbols.
 use Prim.Native.Nat.{ℕ, zero, suc, _*_, _≤_, _<_}
 use mathlib.Core.Path.{_≡_}
 use mathlib.Core.Logic.{_≢_}

@@ -50,6 +50,17 @@ checked P K e =
 
 -- ---- the first of a list that has a property
 
+-- of two properties that hold of the same pairs
+pub first-map : {Q Q′ : Pair → Type 0} {l : List Pair} {p : Pair} → ((x : Pair) → Q x ↔ Q′ x) → First Q l p → First Q′ l p
+first-map {Q} {Q′} {l} {p} f k =
+    record {
+      before = k .before;
+      after = k .after;
+      split = k .split;
+      none = all-map (λ x. ¬ (Q x)) (λ x. ¬ (Q′ x)) (λ x n q. n (f x .1 q)) (k .before) (k .none);
+      here = f p .0 (k .here);
+    }
+
 abbrev leakCode : Pair → Code
 leakCode p = record { number = 7; first = p .coalition; second = p .observer }
 
@@ -125,17 +136,6 @@ module _ (P : Plan) (K : List ℕ) where
     pub found-iff : (p : Pair) → TestLeaks P K p ↔ LeaksTo p
     found-iff p = leaks-iff (poolOf P K) (c .prime) (c .valid) (p .coalition) (p .observer)
 
-    -- the first pair that the search finds is the first that leaks
-    to-leak : (p : Pair) → First (TestLeaks P K) walk p → First LeaksTo walk p
-    to-leak p f =
-        record {
-          before = f .before;
-          after = f .after;
-          split = f .split;
-          none = all-map (λ x. ¬ (TestLeaks P K x)) (λ x. ¬ (LeaksTo x)) (λ x n k. n (found-iff x .1 k)) (f .before) (f .none);
-          here = found-iff p .0 (f .here);
-        }
-
     pub named : (p : Pair) (before after : List Pair) → walk ≡ before ++ (p ∷ after) → All (λ x. ¬ (TestLeaks P K x)) before → TestLeaks P K p → vetCode P K
         ≡ leakCode p
     named p before after s n h =
@@ -154,7 +154,7 @@ module _ (P : Plan) (K : List ℕ) where
           let f = s .1 in
           let z : leakCode (s .0) ≡ leakCode p = sym (named (s .0) (f .before) (f .after) (f .split) (f .none) (f .here)) ∙ e in
           let same : s .0 ≡ p = λ i. record { coalition = z i .first; observer = z i .second } in
-          subst (First LeaksTo walk) same (to-leak (s .0) f))
+          subst (First LeaksTo walk) same (first-map found-iff f))
           (search P K walk)),
       (λ f. named p (f .before) (f .after) (f .split)
           (all-map (λ x. ¬ (LeaksTo x)) (λ x. ¬ (TestLeaks P K x)) (λ x n k. n (found-iff x .0 k)) (f .before) (f .none)) (found-iff p .1 (f .here))),
