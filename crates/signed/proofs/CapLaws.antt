@@ -9,11 +9,11 @@ use native.Mathlib.Numerals.{add-one}
 use native.Mathlib.Omega.{arith}
 use lib.Dec.{T, eqb, ltb, leb→le, le→leb, ltb→lt}
 use lib.IntN.{ℤ, pos, negℤ, natAbs}
-use lib.Signed.{_≤ℤ_}
+use lib.Signed.{leZ, leZ-yes, _≤ℤ_}
 use lib.ListN.{length, drop, getD, drop-of-length-le}
 use lib.Seq.{drop-cons}
 use borrow.Author.Tests.{not-true, eqb-false}
-use Rattle.lists.proofs.Searches.{T-and, and-T, true→T, T→true}
+use Rattle.lists.proofs.Searches.{T-and, and-T, T-ext, true→T, T→true}
 use Rattle.integers.proofs.Parts.{one-part, abs-parts, neg-up, neg-dn, order-parts, parts-order}
 use Rattle.plans.specs.declared.Plan.{Plan}
 use Rattle.plans.specs.Plans.{usersOf}
@@ -74,3 +74,10 @@ cap-means m w = (
   (λ h. le→leb (natAbs w) m
       (omega (arith, abs-parts w, one-part w, neg-up (pos m), neg-dn (pos m), order-parts (negℤ (pos m)) w (h .0), order-parts w (pos m) (h .1)))),
 )
+
+-- the two tests that the code makes
+pub cap-test : (m : ℕ) (w : ℤ) → (leZ w (pos m) && leZ (negℤ (pos m)) w) ≡ inCap m w
+cap-test m w =
+    T-ext (leZ w (pos m) && leZ (negℤ (pos m)) w) (inCap m w)
+    (λ t. let (high, low) = T-and (leZ w (pos m)) (leZ (negℤ (pos m)) w) t in cap-means m w .1 (leZ-yes low, leZ-yes high))
+    (λ t. let (low, high) = cap-means m w .0 t in and-T (leZ w (pos m)) (leZ (negℤ (pos m)) w) (high .le) (low .le))

@@ -3,14 +3,13 @@ use Prim.Native.Nat.{ℕ, suc, _+_, _-_, _*_, _^_, _≤_, _<_}
 use mathlib.Core.Path.{_≡_, refl, sym}
 use mathlib.Core.Bool.{Bool, true, false, cond}
 use native.Mathlib.Omega.{arith}
-use lib.Dec.{T, ltb, ltb→lt}
-use lib.IntN.{ℤ, pos, negsuc, _+ℤ_, _-ℤ_, natAbs}
+use lib.Dec.{ltb, ltb→lt}
+use lib.IntN.{ℤ, pos, negsuc, negℤ, _+ℤ_, _-ℤ_, natAbs}
 use lib.Signed.{ltZ, nonNeg, _≤ℤ_, _<ℤ_}
 use borrow.Author.Tests.{ltb-true, lt-ltb, le-ltb}
 use mir.Syntax.{w32, w64}
 use mir.Val.{SFits}
-use Rattle.lists.proofs.Searches.{true→T}
-use Rattle.integers.proofs.Parts.{up, dn, one-part, abs-parts, sum-parts, difference-parts}
+use Rattle.integers.proofs.Parts.{up, dn, one-part, sum-parts, difference-parts, neg-up, neg-dn, less-true, less-false}
 use Rattle.integers.proofs.Bits.{fits-parts, parts-up, parts-dn}
 use Rattle.signed.specs.Numbers.{travels, asSymbol, symbolOf}
 
@@ -24,15 +23,7 @@ pub not-negative : (z : ℤ) → ltZ z (pos 0) ≡ false → nonNeg z ≡ true
 not-negative (pos n) e = refl
 not-negative (negsuc n) e = sym e
 
-none-up : (z : ℤ) → nonNeg z ≡ false → up z ≡ 0
-none-up (pos n) e = absurd (true→T false (sym e))
-none-up (negsuc n) e = refl
-
-sign : (z : ℤ) → dn z ≡ 0 → T (nonNeg z)
-sign (pos n) e = tt
-sign (negsuc n) e = absurd (omega arith)
-
--- ---- the sums fit 64 bits, and a total that is shown fits 32
+-- ---- the sums fit 64 bits
 
 pub moved-fits : (q : ℕ) (w : ℤ) → q < 2 ^ 32 → SFits w32 w → SFits w64 (pos q +ℤ w)
 moved-fits q w h f =
@@ -41,35 +32,38 @@ moved-fits q w h f =
     (omega (arith, parts, one-part (pos q +ℤ w), parts-up w32 w (omega arith) f))
     (omega (arith, parts, one-part (pos q +ℤ w), parts-dn w32 w f))
 
+pub opposite-fits : (m : ℕ) → m < 2 ^ 32 → SFits w64 (negℤ (pos m))
+opposite-fits m h = fits-parts w64 (negℤ (pos m)) (omega (arith, neg-up (pos m))) (omega (arith, neg-dn (pos m)))
+
 module _ (q t : ℕ) where
-  pub less-fits : q < 2 ^ 32 → t < 2 ^ 32 → SFits w64 (pos t -ℤ pos q)
-  less-fits h l =
-      fits-parts w64 (pos t -ℤ pos q)
-      (omega (arith, difference-parts (pos t) (pos q), one-part (pos t -ℤ pos q)))
-      (omega (arith, difference-parts (pos t) (pos q), one-part (pos t -ℤ pos q)))
+  -- t and t - q add up to a negative number just where 2 × t is below q
+  abbrev pub less : ℤ
+  less = pos t -ℤ pos q
 
-  pub half-fits : q < 2 ^ 32 → t < q → q ≤ 2 * t → SFits w32 (pos t -ℤ pos q)
-  half-fits h l k =
-      fits-parts w32 (pos t -ℤ pos q)
-      (omega (arith, difference-parts (pos t) (pos q), one-part (pos t -ℤ pos q)))
-      (omega (arith, difference-parts (pos t) (pos q), one-part (pos t -ℤ pos q)))
+  less-parts : up less + q ≡ t + dn less
+  less-parts = omega (arith, difference-parts (pos t) (pos q))
 
--- 0 - w
-module _ (w : ℤ) where
-  opposite-parts : up (pos 0 -ℤ w) + up w ≡ dn w + dn (pos 0 -ℤ w)
-  opposite-parts = omega (arith, difference-parts (pos 0) w)
+  both-parts : up (pos t +ℤ less) + dn less ≡ t + up less + dn (pos t +ℤ less)
+  both-parts = omega (arith, sum-parts (pos t) less)
 
-  pub opposite-fits : SFits w32 w → SFits w64 (pos 0 -ℤ w)
-  opposite-fits f =
-      fits-parts w64 (pos 0 -ℤ w)
-      (omega (arith, opposite-parts, one-part (pos 0 -ℤ w), parts-dn w32 w f))
-      (omega (arith, opposite-parts, one-part (pos 0 -ℤ w), parts-up w32 w (omega arith) f))
+  pub less-fits : q < 2 ^ 32 → t < 2 ^ 32 → SFits w64 less
+  less-fits h l = fits-parts w64 less (omega (arith, less-parts, one-part less)) (omega (arith, less-parts, one-part less))
 
-  pub opposite-size : natAbs (pos 0 -ℤ w) ≡ natAbs w
-  opposite-size = omega (arith, opposite-parts, one-part (pos 0 -ℤ w), one-part w, abs-parts (pos 0 -ℤ w), abs-parts w)
+  pub both-fits : q < 2 ^ 32 → t < 2 ^ 32 → SFits w64 (pos t +ℤ less)
+  both-fits h l =
+      fits-parts w64 (pos t +ℤ less)
+      (omega (arith, both-parts, less-parts, one-part less, one-part (pos t +ℤ less)))
+      (omega (arith, both-parts, less-parts, one-part less, one-part (pos t +ℤ less)))
 
-  pub opposite-sign : nonNeg w ≡ false → T (nonNeg (pos 0 -ℤ w))
-  opposite-sign n = sign (pos 0 -ℤ w) (omega (arith, opposite-parts, one-part (pos 0 -ℤ w), none-up w n))
+  pub below-half : ltZ (pos t +ℤ less) (pos 0) ≡ true → 2 * t < q
+  below-half e = omega (arith, less-true (pos t +ℤ less) (pos 0) e, both-parts, less-parts)
+
+  pub above-half : ltZ (pos t +ℤ less) (pos 0) ≡ false → q ≤ 2 * t
+  above-half e = omega (arith, less-false (pos t +ℤ less) (pos 0) e, both-parts, less-parts)
+
+  -- a shown total fits 32 bits
+  pub half-fits : q < 2 ^ 32 → t < q → q ≤ 2 * t → SFits w32 less
+  half-fits h l k = fits-parts w32 less (omega (arith, less-parts, one-part less)) (omega (arith, less-parts, one-part less))
 
 -- ---- a number as a symbol
 
