@@ -1,0 +1,33 @@
+use borrow.Author.Needs.{needs}
+use Prim.Native.Nat.{_-_}
+use Rattle.windows_test.proofs.report.Statement.{statement}
+use Rattle.windows_test.proofs.report.Tie as tie
+
+abbrev Inv-loop : tie.InvT-loop
+Inv-loop kind many tally₀ case₀ tally case = Unit {0}
+
+abbrev μ-loop : tie.MeasureT-loop
+μ-loop kind many tally₀ case₀ tally case = many - case
+
+pub report-spec : {M : Type 1} → statement M
+report-spec =
+    tie.close
+    (tie.spec
+    Inv-loop
+    μ-loop
+    (search needs)
+    (search needs)
+    (search needs)
+    (search needs)
+    (search needs)
+    (search needs)
+    (search needs)
+    (search needs)
+    (search needs)
+    (search needs)
+    (search needs)
+    (search needs)
+    (search needs)
+    (search needs)
+    (search needs)
+    (search needs))

@@ -1,0 +1,26 @@
+use borrow.Author.Needs.{needs}
+use Prim.Native.Nat.{_≤_, _-_}
+use Rattle.windows_test.proofs.runs.fill.Statement.{statement}
+use Rattle.windows_test.proofs.runs.fill.Tie as tie
+
+abbrev Inv-loop : tie.InvT-loop
+Inv-loop run₀ x i₀ run i = i ≤ 240
+
+abbrev μ-loop : tie.MeasureT-loop
+μ-loop run₀ x i₀ run i = 240 - i
+
+pub fill-spec : {M : Type 1} → statement M
+fill-spec =
+    tie.close
+    (tie.spec
+    Inv-loop
+    μ-loop
+    (search needs)
+    (search needs)
+    (search needs)
+    (search needs)
+    (search needs)
+    (search needs)
+    (search needs)
+    (search needs)
+    (search needs))
