@@ -54,11 +54,11 @@ pub const DRAWN: u64 = 6400;
 pub const MODULI: u64 = OF_16_BITS + 2 * NEAR;
 
 // How many refusals there are, and how many inputs: a thousand of each. The last one's number is not the next.
-const REFUSALS: u64 = 15;
+const REFUSALS: u64 = 18;
 
 const LAST_REFUSAL: Symbol = 19;
 
-pub const CODES: u64 = 15000;
+pub const CODES: u64 = 18000;
 
 // Every q below 60 with every a to 60, then with every b to 60 too, then with every fifth m. So q and q + 1 are always among the numbers.
 fn small_case(k: u64, seed: u64) -> Case {
@@ -168,7 +168,7 @@ fn every_modulus(k: u64) -> Symbol {
     low32(two_steps(step(k)))
 }
 
-// The numbers of all refusals in turn: 1 to 14, then 19.
+// The numbers of all refusals in turn: 1 to 17, then 19.
 fn catalogued(k: u64) -> Symbol {
     let number = k % REFUSALS + 1;
     if number == REFUSALS {

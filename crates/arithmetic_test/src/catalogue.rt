@@ -36,6 +36,9 @@ fn refusal(number: u16, first: u16, second: u16) -> Refusal {
         12 => Refusal::NotFull,
         13 => Refusal::StreamTooShort,
         14 => Refusal::OtherRound,
+        15 => Refusal::OutsideCap,
+        16 => Refusal::BadCap,
+        17 => Refusal::BadWindow,
         _ => Refusal::JointLeaks { coalition: first },
     }
 }
