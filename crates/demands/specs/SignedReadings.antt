@@ -1,37 +1,60 @@
 -- Loads that run backwards (document 02, Q-1): a plan P with a cap m. The promises of `signed_upload`, `signed_unmask` and `show_totals` (signed) are
 -- `signedUploadCode`, `signedUploadAfter` and so on, which the statements name.
-use Prim.Native.Nat.{ℕ, _*_, _≤_, _<_}
+use Prim.Native.Nat.{ℕ, _-_, _*_, _≤_, _<_}
 use mathlib.Core.Path.{_≡_}
-use mathlib.Core.Logic.{_≢_, _↔_}
+use mathlib.Core.Logic.{_≢_, _⊎_, _↔_}
 use mathlib.Core.Bool.{true, false}
 use mathlib.Core.List.{List, map}
 use lib.Dec.{T}
 use lib.IntN.{ℤ, pos, negℤ, _+ℤ_}
 use lib.Signed.{_≤ℤ_, _<ℤ_}
 use lib.ListN.{length, take, drop}
+use Rattle.refusals.specs.declared.Code.{Code}
 use Rattle.refusals.specs.Codes.{accepted, firstOf}
 use Rattle.lists.specs.Lists.{tab}
-use Rattle.secrecy.specs.Model.{upload, ZeroSum, view}
+use Rattle.matrices.specs.Linear.{Vector}
+use Rattle.secrecy.specs.Model.{upload, total, inEither, setView, ZeroSum, view}
 use Rattle.secrecy.specs.Leaks.{longest, PairLeak, JointLeak}
 use Rattle.plans.specs.declared.Plan.{Plan}
-use Rattle.plans.specs.Plans.{usersOf, planCode}
+use Rattle.plans.specs.Plans.{usersOf, lengthFits, planCode}
 use Rattle.vetting.specs.Pools.{poolOf}
 use Rattle.vetting.specs.declared.Pair.{Pair}
+use Rattle.vetting.specs.declared.Joint.the-variants.{Relays}
 use Rattle.vetting.specs.Walk.{pairs, InWalk, First}
 use Rattle.vetting.specs.Vet.{otherChecks, vetCode}
+use Rattle.vetting.specs.Joint.{relaysFit, jointCode}
 use Rattle.keys.specs.Keys.{keysOf}
 use Rattle.rounds.specs.Ledger.{Frame}
 use Rattle.rounds.specs.Rounds.{runOf, sumsAfter}
 use Rattle.rounds.specs.Relays.{Event}
 use Rattle.signed.specs.Numbers.{symbolOf, shownOf, trueSum, signedReading}
 use Rattle.signed.specs.Caps.{capFits, inCap, allInCap}
-use Rattle.signed.specs.SignedBlocks.{signedUploadCode, signedUploadOf, signedUnmaskCode, signedUnmaskAfter, totalsCode, totalsAfter}
-use Rattle.signed.specs.SignedLeaks.{SignedAgrees, Capped, signedShowing, SignedPairLeak, SignedJointLeak}
+use Rattle.signed.specs.SignedBlocks.{signedUploadCode, signedUploadOf, signedUploadAfter, signedUnmaskCode, signedUnmaskedOf, signedUnmaskAfter}
+use Rattle.signed.specs.SignedBlocks.{totalsCode, totalsAfter}
+use Rattle.signed.specs.SignedLeaks.{travelling, SignedAgree, SignedAgrees, Capped, signedShowing, SignedPairLeak, SignedJointLeak}
 use Rattle.demands.specs.Demands.{opening, opens, AllHeard}
+use Rattle.demands.specs.JointRelays.{Few}
 
 -- "a reading is a signed number from −m to m"
 abbrev pub CapMeans : Type 0
 CapMeans = (m : ℕ) (w : ℤ) → T (inCap m w) ↔ ((negℤ (pos m) ≤ℤ w) × (w ≤ℤ pos m))
+
+module _ (P : Plan) (m : ℕ) where
+  -- "16 when m is 0 or 2 × U × V × m is not below q"
+  abbrev pub NoRoom : Type 0
+  NoRoom = (m ≡ 0) ⊎ (P .q ≤ 2 * usersOf P * m)
+
+  abbrev pub CapRefused : Type 0
+  CapRefused = (capFits P m ≡ false) ↔ NoRoom
+
+  -- "after 2, with 1 before 2 in every signed call": the answer is 16 exactly for a good plan and such a cap, whatever else is handed over
+  abbrev pub RefusesCap : Code → Type 0
+  RefusesCap c = _≡_ {A = ℕ} (c .number) 16 ↔ ((accepted ≡ planCode P) × NoRoom)
+
+  abbrev pub SixteenExactly : Type 0
+  SixteenExactly =
+      (L : ℕ) (R : List ℤ) (a b : List ℕ)
+      → RefusesCap (signedUploadCode P m L R a b) × RefusesCap (signedUnmaskCode P m L a b R) × RefusesCap (totalsCode P m L a R)
 
 -- "With q 65,521 and 16 meters m may be 2,047 and not 2,048."
 abbrev pub CapOfSixteen : Type 0
@@ -55,11 +78,14 @@ module _ (P : Plan) (m : ℕ) (cap : capFits P m ≡ true) where
     abbrev W : List ℕ
     W = map (symbolOf (P .q)) R
 
-    -- what signed_upload writes for user i is document 000's upload (25) of the readings as they travel
+    -- where user i uploads its readings, all inside the cap, with its individual key into any buffer of L symbols, nothing is refused, and the buffer holds
+    -- document 000's upload (25) of the readings as they travel
     abbrev pub SignedUploadsAre : Type 0
     SignedUploadsAre =
-        0 < P .q → length R ≡ usersOf P * L → (i : ℕ) → i < usersOf P
-        → signedUploadOf P m L (take L (drop (i * L) R)) (take L (drop (i * L) (keysOf P K L N))) ≡ tab L (upload (poolOf P K) L W N i)
+        accepted ≡ planCode P → lengthFits L ≡ true → length R ≡ usersOf P * L → T (allInCap m R)
+        → (i : ℕ) → i < usersOf P → (out : List ℕ) → length out ≡ L
+        → (accepted ≡ signedUploadCode P m L (take L (drop (i * L) R)) (take L (drop (i * L) (keysOf P K L N))) out)
+        × (signedUploadAfter P m L (take L (drop (i * L) R)) (take L (drop (i * L) (keysOf P K L N))) out ≡ tab L (upload (poolOf P K) L W N i))
 
     -- "Where demand 2 gives the total, the shown one equals the true sum of the readings.": over demand 2's own hypotheses (Demands, TotalIsSum). What the
     -- server gives out into any buffer of L symbols is shown into any buffer of L numbers, without a refusal, as the true sums
@@ -72,6 +98,19 @@ module _ (P : Plan) (m : ℕ) (cap : capFits P m ≡ true) where
         → (accepted ≡ totalsCode P m L (sumsAfter (P .clusters) true (runOf (P .clusters) true (opening P K L W N round) frames) out) shown)
         × (totalsAfter P m L (sumsAfter (P .clusters) true (runOf (P .clusters) true (opening P K L W N round) frames) out) shown
         ≡ tab L (λ p. trueSum (usersOf P) (λ i. signedReading L R i p)))
+
+  -- "A total symbol t is shown as t when 2 × t is below q and as t − q otherwise.", and so is what is left of an upload without its key: any symbols, from
+  -- wherever they come, and whatever comes out
+  module _ (L : ℕ) (plan : accepted ≡ planCode P) (fits : lengthFits L ≡ true) (out : List ℤ) (room : length out ≡ L) where
+    abbrev pub AnyTotalsShown : Type 0
+    AnyTotalsShown =
+        (totals : List ℕ) → Vector (P .q) L totals
+        → (accepted ≡ totalsCode P m L totals out) × (totalsAfter P m L totals out ≡ map (shownOf (P .q)) totals)
+
+    abbrev pub AnyUnmasked : Type 0
+    AnyUnmasked =
+        (sent key : List ℕ) → Vector (P .q) L sent → Vector (P .q) L key
+        → (accepted ≡ signedUnmaskCode P m L sent key out) × (signedUnmaskAfter P m L sent key out ≡ signedUnmaskedOf P m L sent key)
 
   -- "Secrecy is claimed, and leaking is judged, over all symbols as before, and the same verdict is shown right over the readings inside each cap that 16
   -- doesn't refuse.": a pair leaks among the readings inside the cap exactly where it leaks, and so does a joint observer
@@ -92,7 +131,14 @@ module _ (P : Plan) (m : ℕ) (cap : capFits P m ≡ true) where
         → (vetCode P K ≡ record { number = 7; first = p .coalition; second = p .observer })
         ↔ First (λ p. SignedPairLeak (poolOf P K) m (p .coalition) (p .observer)) (pairs (P .clusters) (P .size) (P .limit)) p
 
-  -- and an accepted plan has equal numbers for readings that agree as signed numbers
+    -- inside the cap, sets of readings agree on a total modulo the prime exactly where they agree on the true sum
+    abbrev pub SumsAlike : Type 0
+    SumsAlike =
+        (L : ℕ) (R R′ : List ℤ) → Capped (poolOf P K) m L R → Capped (poolOf P K) m L R′ → (p : ℕ) → p < L
+        → (total (poolOf P K) L (travelling (poolOf P K) R) p ≡ total (poolOf P K) L (travelling (poolOf P K) R′) p)
+        ↔ (trueSum (usersOf P) (λ i. signedReading L R i p) ≡ trueSum (usersOf P) (λ i. signedReading L R′ i p))
+
+  -- and an accepted plan has equal numbers for readings that agree as signed numbers and, for the server, on the total modulo the prime
   abbrev pub SignedEqualNumbers : Type 0
   SignedEqualNumbers =
       (K : List ℕ) → accepted ≡ vetCode P K
@@ -101,6 +147,29 @@ module _ (P : Plan) (m : ℕ) (cap : capFits P m ≡ true) where
       → (R R′ : List ℤ) → Capped (poolOf P K) m L R → Capped (poolOf P K) m L R′ → SignedAgrees (poolOf P K) g w L R R′
       → (s : List ℕ)
       → signedShowing (poolOf P K) (view (poolOf P K) g w) L R s ≡ signedShowing (poolOf P K) (view (poolOf P K) g w) L R′ s
+
+  -- the same of relays a and b under one lock (JointRelays)
+  module _ (K : List ℕ) (a b : ℕ) where
+    abbrev pub SignedJointHides : Type 0
+    SignedJointHides =
+        accepted ≡ jointCode P K (Relays a b) → (g : ℕ) → Few P K g → (L : ℕ) → 1 ≤ L → L ≤ longest
+        → (R R′ : List ℤ) → Capped (poolOf P K) m L R → Capped (poolOf P K) m L R′ → SignedAgree (poolOf P K) g L R R′ → (s : List ℕ)
+        → signedShowing (poolOf P K) (setView (poolOf P K) (inEither (poolOf P K) (a - 1) (b - 1)) g) L R s
+        ≡ signedShowing (poolOf P K) (setView (poolOf P K) (inEither (poolOf P K) (a - 1) (b - 1)) g) L R′ s
+
+    abbrev pub RefusedIffSignedJointLeaks : Type 0
+    RefusedIffSignedJointLeaks =
+        accepted ≡ vetCode P K → relaysFit P a b ≡ true
+        → _≡_ {A = ℕ} (jointCode P K (Relays a b) .number) 19 ↔ ((g : ℕ) × Few P K g × SignedJointLeak (poolOf P K) m (a - 1) (b - 1) g)
+
+    abbrev pub NamesLeastSigned : Type 0
+    NamesLeastSigned =
+        _≡_ {A = ℕ} (jointCode P K (Relays a b) .number) 19
+        → (g : ℕ)
+        × (jointCode P K (Relays a b) ≡ record { number = 19; first = g; second = 0 })
+        × Few P K g
+        × SignedJointLeak (poolOf P K) m (a - 1) (b - 1) g
+        × ((h : ℕ) → h < g → Few P K h → ¬ (SignedJointLeak (poolOf P K) m (a - 1) (b - 1) h))
 
 -- "Taking a key off shows the reading likewise, and never gives 15.": where signed readings are uploaded, taking the key off what is sent is not refused, and
 -- writes the readings; and whatever is handed over, the answer is not 15

@@ -1,18 +1,19 @@
 -- Laws of caps, and of readings inside one.
 use Prim.Native.Nat.{ℕ, zero, suc, _+_, _*_, _≤_, _<_}
-use mathlib.Core.Path.{_≡_}
-use mathlib.Core.Logic.{_↔_}
-use mathlib.Core.Bool.{true, not, _&&_}
+use mathlib.Core.Path.{_≡_, refl, sym, _∙_, subst}
+use mathlib.Core.Logic.{_⊎_, inl, inr, ⊎-elim, _↔_}
+use mathlib.Core.Bool.{Bool, true, false, not, _&&_}
 use mathlib.Core.List.{List, [], _∷_}
 use native.Mathlib.Nat.{mul-le-mul}
 use native.Mathlib.Numerals.{add-one}
+use native.Mathlib.Decide.{ℕ-discrete, decLt}
 use native.Mathlib.Omega.{arith}
 use lib.Dec.{T, eqb, ltb, leb→le, le→leb, ltb→lt}
 use lib.IntN.{ℤ, pos, negℤ, natAbs}
 use lib.Signed.{leZ, leZ-yes, _≤ℤ_}
 use lib.ListN.{length, drop, getD, drop-of-length-le}
 use lib.Seq.{drop-cons}
-use borrow.Author.Tests.{not-true, eqb-false}
+use borrow.Author.Tests.{not-true, eqb-false, eq-eqb, ne-eqb, lt-ltb, le-ltb}
 use Rattle.lists.proofs.Searches.{T-and, and-T, T-ext, true→T, T→true}
 use Rattle.integers.proofs.Parts.{one-part, abs-parts, neg-up, neg-dn, order-parts, parts-order}
 use Rattle.plans.specs.declared.Plan.{Plan}
@@ -34,6 +35,24 @@ cap-known P m e =
 -- it leaves room for one reading of either sign
 pub one-room : {n q m : ℕ} → Cap n q m → 0 < n → 2 * m < q
 one-room {n} {q} {m} cap h = omega (arith, cap .room, mul-le-mul {n₁ = 2} {m₁ = m} {n₂ = 2 * n} {m₂ = m} (omega arith) (omega arith))
+
+-- and one that doesn't: "16 when m is 0 or 2 × U × V × m is not below q"
+pub cap-refused : (P : Plan) (m : ℕ) → (capFits P m ≡ false) ↔ ((m ≡ 0) ⊎ (P .q ≤ 2 * usersOf P * m))
+cap-refused P m = (
+  (λ e. go (ℕ-discrete m 0) (decLt (2 * usersOf P * m) (P .q)) e),
+  ⊎-elim (λ (z : m ≡ 0). rw (eq-eqb m 0 z)) (λ (h : P .q ≤ 2 * usersOf P * m). rw (le-ltb (2 * usersOf P * m) (P .q) h) (and-false (not (eqb m 0)))),
+)
+  where
+    and-false : (b : Bool) → (b && false) ≡ false
+    and-false true = refl
+    and-false false = refl
+
+    go : Dec (m ≡ 0) → Dec (2 * usersOf P * m < P .q) → capFits P m ≡ false → (m ≡ 0) ⊎ (P .q ≤ 2 * usersOf P * m)
+    go (yes z) d e = inl z
+    go (no n) (yes l) e =
+        let fits : capFits P m ≡ true = rw (ne-eqb m 0 n, lt-ltb (2 * usersOf P * m) (P .q) l) in
+        absurd (subst (λ (b : Bool). T b) (sym fits ∙ e) tt)
+    go (no n) (no l) e = inr (omega (arith, l))
 
 -- ---- one reading after the other, as the code looks at them
 
