@@ -3,7 +3,6 @@ use crate::calls::given_back;
 use crate::calls::totalled;
 use crate::drawn::drawn_reading;
 use crate::drawn::fill_readings;
-use crate::drawn::pick;
 use crate::drawn::plan_of;
 use crate::model::DIFFER;
 use crate::model::Shape;
@@ -107,7 +106,7 @@ pub fn round(case: usize) -> usize {
     let plan = plan_of(x, 24, 16);
     let users = product(plan.clusters, plan.size);
     let largest = largest_cap(plan);
-    let less = wrapping_add_usize(pick(x, 17, largest), 1);
+    let less = wrapping_add_usize(residue(state(x, 17), largest), 1);
     let cap = over(case % 2 == 0, largest, less);
     let s = Shape {
         plan,
