@@ -5,9 +5,9 @@ use mathlib.Core.Logic.{_↔_}
 use mathlib.Core.Bool.{true, not, _&&_}
 use mathlib.Core.List.{List, [], _∷_, map}
 use native.Mathlib.Omega.{arith}
-use lib.Dec.{eqb, leb→le}
-use lib.IntN.{ℤ, natAbs}
-use lib.ListN.{length, take, drop}
+use lib.Dec.{eqb, leb→le, le→leb}
+use lib.IntN.{ℤ, pos, natAbs}
+use lib.ListN.{length, take, drop, getD}
 use borrow.Author.Tests.{not-false}
 use Rattle.refusals.specs.Codes.{code, accepted, firstOf}
 use Rattle.refusals.proofs.CodeLaws.{none-holds}
@@ -37,11 +37,11 @@ use Rattle.signed.proofs.CapLaws.{Cap, cap-known, one-room}
 use Rattle.signed.proofs.CheckLaws.{Shape, plan-shape, positive}
 use Rattle.signed.proofs.Totals.{shown-symbol, own-readings, total-below, shown-totals}
 use Rattle.signed.proofs.SignedLaws as SignedLaws
-use Rattle.signed.proofs.SignedLaws.{symbols-vector, own-inside, signed-taken, symbols-unmasked, symbols-shown, signed-gives-back}
+use Rattle.signed.proofs.SignedLaws.{symbols-vector, signed-taken, symbols-unmasked, symbols-shown, signed-gives-back}
 use Rattle.signed.specs.SignedLeaks.{SignedJointLeak}
 use Rattle.signed.proofs.Secrecy as Secrecy
 use Rattle.signed.proofs.Secrecy.{members-alike, agrees-alike, pair-alike, joint-alike}
-use Rattle.demands.specs.SignedReadings.{CapMeans, CapRefused, SixteenExactly, CapOfSixteen, Travels, ThereAndBack, SignedUploadsAre, ShownIsTrue}
+use Rattle.demands.specs.SignedReadings.{CapMeans, CapRefused, SixteenExactly, FifteenExactly, AllInCapMeans, CapOfSixteen, Travels, ThereAndBack, SignedUploadsAre, ShownIsTrue}
 use Rattle.demands.specs.SignedReadings.{AnyTotalsShown, AnyUnmasked, LeaksAlike, JointLeaksAlike, RefusedIffSignedLeaks, NamesFirstSigned, SumsAlike}
 use Rattle.demands.specs.SignedReadings.{SignedEqualNumbers, SignedJointHides, RefusedIffSignedJointLeaks, NamesLeastSigned, SignedUnmasks, NeverOutside}
 use Rattle.demands.proofs.Totals.{readings-to-total}
@@ -68,6 +68,15 @@ module _ (P : Plan) (m : ℕ) where
         ((not (eqb (length a) L && eqb (length R) L), code 4) ∷ (not (allBelow (P .q) a), code 3) ∷ []) tt,
   )
 
+  pub fifteen-exactly : FifteenExactly P m
+  fifteen-exactly L = SignedLaws.fifteen-exactly P m L
+
+pub all-in-cap-means : AllInCapMeans
+all-in-cap-means m R = (
+  (λ t p l. le→leb (natAbs (getD R p (pos 0))) m (CapLaws.cap-at m R t p)),
+  (λ h. CapLaws.at-cap m R (λ p l. leb→le (natAbs (getD R p (pos 0))) m (h p l))),
+)
+
 pub cap-of-sixteen : CapOfSixteen
 cap-of-sixteen P q sixteen = (rw (sixteen, q), rw (sixteen, q))
 
@@ -90,13 +99,13 @@ module _ (P : Plan) (m : ℕ) (cap : capFits P m ≡ true) where
     W = map (symbolOf (P .q)) R
 
     pub signed-uploads : SignedUploadsAre P m cap K L R N
-    signed-uploads plan fit size inside i l out room =
+    signed-uploads plan fit size i l inside out room =
         let own : List ℤ = take L (drop (i * L) R) in
         let key : List ℕ = take L (drop (i * L) (keysOf P K L N)) in
         let s : Shape P m L = plan-shape P m L plan cap fit in
         let vec : Vector (P .q) L key = subst (λ (X : List ℕ). Vector (P .q) L X) (sym (keys-are P K L N i l)) (key-vector (poolOf P K) (positive s) L N i) in
         let long : length own ≡ L = length-part L (i * L) R (row-fits (usersOf P) L i (length R) l size) in
-        let (told, written) = signed-taken P m L s own key out long (own-inside m L (i * L) R inside) vec room in (
+        let (told, written) = signed-taken P m L s own key out long inside vec room in (
           told,
           written
               ∙ ap (λ (X : List ℕ). uploadOf (P .q) L X key) (sym (own-readings (poolOf P K) m L R size i l))
@@ -127,10 +136,10 @@ module _ (P : Plan) (m : ℕ) (cap : capFits P m ≡ true) where
     c = checked P K others
 
     pub leaks-alike : LeaksAlike P m cap K others
-    leaks-alike = pair-alike (poolOf P K) m (c .prime) fits (c .valid) (c .zero-sum)
+    leaks-alike = pair-alike (poolOf P K) m fits (c .prime) (c .valid) (c .zero-sum)
 
     pub joint-leaks-alike : JointLeaksAlike P m cap K others
-    joint-leaks-alike = joint-alike (poolOf P K) m (c .prime) fits (c .valid)
+    joint-leaks-alike = joint-alike (poolOf P K) m fits (c .prime) (c .valid)
 
     pub refused-iff-signed-leaks : RefusedIffSignedLeaks P m cap K others
     refused-iff-signed-leaks =
@@ -146,8 +155,8 @@ module _ (P : Plan) (m : ℕ) (cap : capFits P m ≡ true) where
           (λ k. r .1 (first-map (λ x. let b = leaks-alike (x .coalition) (x .observer) in (b .1, b .0)) k)),
         )
 
-    pub sums-alike : SumsAlike P m cap K others
-    sums-alike L R R′ a b = Secrecy.sums-alike (poolOf P K) m (c .prime) fits L R R′ a b
+  pub sums-alike : SumsAlike P m cap
+  sums-alike K L R R′ a b = Secrecy.sums-alike (poolOf P K) m fits L R R′ a b
 
   pub signed-equal-numbers : SignedEqualNumbers P m cap
   signed-equal-numbers K e g w i L low high R R′ in-cap in-cap′ agree =
@@ -155,7 +164,7 @@ module _ (P : Plan) (m : ℕ) (cap : capFits P m ≡ true) where
       let h = prime-pos (c .prime) in
       accepted-equal-numbers P K e g w i L low high (map (symbolOf (P .q)) R) (map (symbolOf (P .q)) R′)
       (symbols-vector (P .q) (usersOf P * L) R h (in-cap .size)) (symbols-vector (P .q) (usersOf P * L) R′ h (in-cap′ .size))
-      (agrees-alike (poolOf P K) m (c .prime) fits L R R′ in-cap in-cap′ g w .0 agree)
+      (agrees-alike (poolOf P K) m fits L R R′ in-cap in-cap′ g w .0 agree)
 
   module _ (K : List ℕ) (a b : ℕ) where
     joint-leak : accepted ≡ vetCode P K → (g : ℕ) → JointLeak (poolOf P K) (a - 1) (b - 1) g ↔ SignedJointLeak (poolOf P K) m (a - 1) (b - 1) g
@@ -168,7 +177,7 @@ module _ (P : Plan) (m : ℕ) (cap : capFits P m ≡ true) where
         let h = prime-pos (c .prime) in
         joint-hides P K a b e g few L low high (map (symbolOf (P .q)) R) (map (symbolOf (P .q)) R′)
         (symbols-vector (P .q) (usersOf P * L) R h (in-cap .size)) (symbols-vector (P .q) (usersOf P * L) R′ h (in-cap′ .size))
-        (members-alike (poolOf P K) m (c .prime) fits L R R′ in-cap in-cap′ g .0 agree)
+        (members-alike (poolOf P K) m fits L R R′ in-cap in-cap′ g .0 agree)
 
     pub refused-iff-signed-joint-leaks : RefusedIffSignedJointLeaks P m cap K a b
     refused-iff-signed-joint-leaks v fit =
@@ -184,7 +193,7 @@ module _ (P : Plan) (m : ℕ) (cap : capFits P m ≡ true) where
         (g, named, few, joint-leak (r .0) g .0 leak, (λ h l f k. least h l f (joint-leak (r .0) h .1 k)))
 
 pub signed-unmasks : SignedUnmasks
-signed-unmasks P m L = signed-gives-back P m L
+signed-unmasks P m n L = signed-gives-back P m n L
 
 pub never-outside : NeverOutside
 never-outside P m L = SignedLaws.never-outside P m L

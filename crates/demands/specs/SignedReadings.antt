@@ -8,7 +8,7 @@ use mathlib.Core.List.{List, map}
 use lib.Dec.{T}
 use lib.IntN.{ℤ, pos, negℤ, _+ℤ_}
 use lib.Signed.{_≤ℤ_, _<ℤ_}
-use lib.ListN.{length, take, drop}
+use lib.ListN.{length, take, drop, getD}
 use Rattle.refusals.specs.declared.Code.{Code}
 use Rattle.refusals.specs.Codes.{accepted, firstOf}
 use Rattle.lists.specs.Lists.{tab}
@@ -24,20 +24,25 @@ use Rattle.vetting.specs.Walk.{pairs, InWalk, First}
 use Rattle.vetting.specs.Vet.{otherChecks, vetCode}
 use Rattle.vetting.specs.Joint.{relaysFit, jointCode}
 use Rattle.keys.specs.Keys.{keysOf}
+use Rattle.masking.specs.Blocks.{unmaskedOf}
 use Rattle.rounds.specs.Ledger.{Frame}
 use Rattle.rounds.specs.Rounds.{runOf, sumsAfter}
 use Rattle.rounds.specs.Relays.{Event}
-use Rattle.signed.specs.Numbers.{symbolOf, shownOf, trueSum, signedReading}
+use Rattle.signed.specs.Numbers.{symbolOf, travelling, shownOf, trueSum, signedReading}
 use Rattle.signed.specs.Caps.{capFits, inCap, allInCap}
-use Rattle.signed.specs.SignedBlocks.{signedUploadCode, signedUploadOf, signedUploadAfter, signedUnmaskCode, signedUnmaskedOf, signedUnmaskAfter}
+use Rattle.signed.specs.SignedBlocks.{signedUploadCode, signedUploadOf, signedUploadAfter, signedUnmaskCode, signedUnmaskAfter}
 use Rattle.signed.specs.SignedBlocks.{totalsCode, totalsAfter}
-use Rattle.signed.specs.SignedLeaks.{travelling, SignedAgree, SignedAgrees, Capped, signedShowing, SignedPairLeak, SignedJointLeak}
+use Rattle.signed.specs.SignedLeaks.{SignedAgree, SignedAgrees, Capped, signedShowing, SignedPairLeak, SignedJointLeak}
 use Rattle.demands.specs.Demands.{opening, opens, AllHeard}
 use Rattle.demands.specs.JointRelays.{Few}
 
 -- "a reading is a signed number from −m to m"
 abbrev pub CapMeans : Type 0
 CapMeans = (m : ℕ) (w : ℤ) → T (inCap m w) ↔ ((negℤ (pos m) ≤ℤ w) × (w ≤ℤ pos m))
+
+-- of a run of readings, each
+abbrev pub AllInCapMeans : Type 0
+AllInCapMeans = (m : ℕ) (R : List ℤ) → T (allInCap m R) ↔ ((p : ℕ) → p < length R → T (inCap m (getD R p (pos 0))))
 
 module _ (P : Plan) (m : ℕ) where
   -- "16 when m is 0 or 2 × U × V × m is not below q"
@@ -55,6 +60,15 @@ module _ (P : Plan) (m : ℕ) where
   SixteenExactly =
       (L : ℕ) (R : List ℤ) (a b : List ℕ)
       → RefusesCap (signedUploadCode P m L R a b) × RefusesCap (signedUnmaskCode P m L a b R) × RefusesCap (totalsCode P m L a R)
+
+  -- "15 when a reading is outside the cap, after 4 and before 3": the answer to an upload is 15 exactly where 1, 2, 16, 9 and 4 are not given and some reading
+  -- is outside, whatever numbers the key has
+  abbrev pub FifteenExactly : Type 0
+  FifteenExactly =
+      (L : ℕ) (R : List ℤ) (key out : List ℕ)
+      → _≡_ {A = ℕ} (signedUploadCode P m L R key out .number) 15
+      ↔ ((accepted ≡ planCode P) × (capFits P m ≡ true) × (lengthFits L ≡ true) × (length R ≡ L) × (length key ≡ L) × (length out ≡ L)
+      × (allInCap m R ≡ false))
 
 -- "With q 65,521 and 16 meters m may be 2,047 and not 2,048."
 abbrev pub CapOfSixteen : Type 0
@@ -74,21 +88,21 @@ module _ (P : Plan) (m : ℕ) (cap : capFits P m ≡ true) where
   ThereAndBack = 0 < usersOf P → (w : ℤ) → T (inCap m w) → shownOf (P .q) (symbolOf (P .q) w) ≡ w
 
   module _ (K : List ℕ) (L : ℕ) (R : List ℤ) (N : List ℕ) where
-    -- the readings as they travel
     abbrev W : List ℕ
-    W = map (symbolOf (P .q)) R
+    W = travelling (P .q) R
 
-    -- where user i uploads its readings, all inside the cap, with its individual key into any buffer of L symbols, nothing is refused, and the buffer holds
-    -- document 000's upload (25) of the readings as they travel
+    -- where user i uploads its own readings, inside the cap, with its individual key into any buffer of L symbols, nothing is refused, and the buffer holds
+    -- document 000's upload (25) of the readings as they travel, whatever the others' readings are
     abbrev pub SignedUploadsAre : Type 0
     SignedUploadsAre =
-        accepted ≡ planCode P → lengthFits L ≡ true → length R ≡ usersOf P * L → T (allInCap m R)
-        → (i : ℕ) → i < usersOf P → (out : List ℕ) → length out ≡ L
+        accepted ≡ planCode P → lengthFits L ≡ true → length R ≡ usersOf P * L
+        → (i : ℕ) → i < usersOf P → T (allInCap m (take L (drop (i * L) R))) → (out : List ℕ) → length out ≡ L
         → (accepted ≡ signedUploadCode P m L (take L (drop (i * L) R)) (take L (drop (i * L) (keysOf P K L N))) out)
         × (signedUploadAfter P m L (take L (drop (i * L) R)) (take L (drop (i * L) (keysOf P K L N))) out ≡ tab L (upload (poolOf P K) L W N i))
 
-    -- "Where demand 2 gives the total, the shown one equals the true sum of the readings.": over demand 2's own hypotheses (Demands, TotalIsSum). What the
-    -- server gives out into any buffer of L symbols is shown into any buffer of L numbers, without a refusal, as the true sums
+    -- "Where demand 2 gives the total, the shown one equals the true sum of the readings.": over demand 2's own hypotheses (Demands, TotalIsSum), of a plan that
+    -- 1 and 2 don't refuse. What the server gives out into any buffer of L symbols is shown into any buffer of L numbers, without a refusal, as the true sums.
+    -- That `signed_upload` writes the blocks which the frames carry is SignedUploadsAre
     abbrev pub ShownIsTrue : Type 0
     ShownIsTrue =
         (round : ℕ) → accepted ≡ planCode P → length R ≡ usersOf P * L → T (allInCap m R)
@@ -110,7 +124,7 @@ module _ (P : Plan) (m : ℕ) (cap : capFits P m ≡ true) where
     abbrev pub AnyUnmasked : Type 0
     AnyUnmasked =
         (sent key : List ℕ) → Vector (P .q) L sent → Vector (P .q) L key
-        → (accepted ≡ signedUnmaskCode P m L sent key out) × (signedUnmaskAfter P m L sent key out ≡ signedUnmaskedOf P m L sent key)
+        → (accepted ≡ signedUnmaskCode P m L sent key out) × (signedUnmaskAfter P m L sent key out ≡ map (shownOf (P .q)) (unmaskedOf (P .q) L sent key))
 
   -- "Secrecy is claimed, and leaking is judged, over all symbols as before, and the same verdict is shown right over the readings inside each cap that 16
   -- doesn't refuse.": a pair leaks among the readings inside the cap exactly where it leaks, and so does a joint observer
@@ -131,12 +145,12 @@ module _ (P : Plan) (m : ℕ) (cap : capFits P m ≡ true) where
         → (vetCode P K ≡ record { number = 7; first = p .coalition; second = p .observer })
         ↔ First (λ p. SignedPairLeak (poolOf P K) m (p .coalition) (p .observer)) (pairs (P .clusters) (P .size) (P .limit)) p
 
-    -- inside the cap, sets of readings agree on a total modulo the prime exactly where they agree on the true sum
-    abbrev pub SumsAlike : Type 0
-    SumsAlike =
-        (L : ℕ) (R R′ : List ℤ) → Capped (poolOf P K) m L R → Capped (poolOf P K) m L R′ → (p : ℕ) → p < L
-        → (total (poolOf P K) L (travelling (poolOf P K) R) p ≡ total (poolOf P K) L (travelling (poolOf P K) R′) p)
-        ↔ (trueSum (usersOf P) (λ i. signedReading L R i p) ≡ trueSum (usersOf P) (λ i. signedReading L R′ i p))
+  -- inside the cap, sets of readings agree on a total modulo the prime exactly where they agree on the true sum
+  abbrev pub SumsAlike : Type 0
+  SumsAlike =
+      (K : List ℕ) (L : ℕ) (R R′ : List ℤ) → Capped (poolOf P K) m L R → Capped (poolOf P K) m L R′ → (p : ℕ) → p < L
+      → (total (poolOf P K) L (travelling (P .q) R) p ≡ total (poolOf P K) L (travelling (P .q) R′) p)
+      ↔ (trueSum (usersOf P) (λ i. signedReading L R i p) ≡ trueSum (usersOf P) (λ i. signedReading L R′ i p))
 
   -- and an accepted plan has equal numbers for readings that agree as signed numbers and, for the server, on the total modulo the prime
   abbrev pub SignedEqualNumbers : Type 0
@@ -175,9 +189,10 @@ module _ (P : Plan) (m : ℕ) (cap : capFits P m ≡ true) where
 -- writes the readings; and whatever is handed over, the answer is not 15
 abbrev pub SignedUnmasks : Type 0
 SignedUnmasks =
-    (P : Plan) (m L : ℕ) (R : List ℤ) (key out : List ℕ) (back : List ℤ) → accepted ≡ signedUploadCode P m L R key out → length back ≡ L
-    → (accepted ≡ signedUnmaskCode P m L (signedUploadOf P m L R key) key back)
-    × (signedUnmaskAfter P m L (signedUploadOf P m L R key) key back ≡ R)
+    (P : Plan) (m n L : ℕ) (R : List ℤ) (key out : List ℕ) (back : List ℤ)
+    → accepted ≡ signedUploadCode P m L R key out → capFits P n ≡ true → length back ≡ L
+    → (accepted ≡ signedUnmaskCode P n L (signedUploadOf P L R key) key back)
+    × (signedUnmaskAfter P n L (signedUploadOf P L R key) key back ≡ R)
 
 abbrev pub NeverOutside : Type 0
 NeverOutside = (P : Plan) (m L : ℕ) (upload key : List ℕ) (out : List ℤ) → signedUnmaskCode P m L upload key out .number ≢ 15

@@ -56,7 +56,7 @@ pub record Shape (P : Plan) (m L : ℕ) : Type 0 where
   pub cap : capFits P m ≡ true
   pub fits : lengthFits L ≡ true
 
-shape : (P : Plan) (m L : ℕ) → not (inBounds P) ≡ false → not (isPrime (P .q)) ≡ false → not (capFits P m) ≡ false → not (lengthFits L) ≡ false → Shape P m L
+pub shape : (P : Plan) (m L : ℕ) → not (inBounds P) ≡ false → not (isPrime (P .q)) ≡ false → not (capFits P m) ≡ false → not (lengthFits L) ≡ false → Shape P m L
 shape P m L b p c l =
     record {
       bounds = not-false (inBounds P) b;
@@ -80,7 +80,7 @@ module _ {P : Plan} {m L : ℕ} (s : Shape P m L) where
   reading-room = one-room (cap-known P m (s .cap)) (some-users (bounds-known P (s .bounds) .counts))
 
 -- three lengths
-lengths : (a b o L : ℕ) → not (eqb a L && eqb b L && eqb o L) ≡ false → (a ≡ L) × (b ≡ L) × (o ≡ L)
+pub lengths : (a b o L : ℕ) → not (eqb a L && eqb b L && eqb o L) ≡ false → (a ≡ L) × (b ≡ L) × (o ≡ L)
 lengths a b o L e =
     let (both, out) = T-and (eqb a L && eqb b L) (eqb o L) (true→T (eqb a L && eqb b L && eqb o L) (not-false (eqb a L && eqb b L && eqb o L) e)) in
     let (first, second) = T-and (eqb a L) (eqb b L) both in

@@ -14,14 +14,13 @@ use borrow.Author.Tests.{eq-eqb, ne-eqb, lt-ltb}
 use Rattle.lists.specs.Lists.{at}
 use Rattle.lists.proofs.ListLaws.{map-get}
 use Rattle.residues.specs.Primes.{Prime}
-use Rattle.residues.proofs.PrimeLaws.{prime-pos}
 use Rattle.matrices.specs.Linear.{Vector}
 use Rattle.secrecy.specs.Model.{Pool, users, inEither, setView, view, total, ZeroSum}
 use Rattle.secrecy.specs.Leaks.{keysShowing, Symbols, Leak, Agree, Agrees, PairLeak, JointLeak}
 use Rattle.secrecy.proofs.PairLeaks.{Small, small-leak, set-small-leak}
-use Rattle.signed.specs.Numbers.{symbolOf, shownOf, trueSum, signedReading}
+use Rattle.signed.specs.Numbers.{symbolOf, travelling, shownOf, trueSum, signedReading}
 use Rattle.signed.specs.Caps.{allInCap}
-use Rattle.signed.specs.SignedLeaks.{travelling, SignedAgree, SignedAgrees, Capped, SignedLeak, SignedPairLeak, SignedJointLeak}
+use Rattle.signed.specs.SignedLeaks.{SignedAgree, SignedAgrees, Capped, SignedLeak, SignedPairLeak, SignedJointLeak}
 use Rattle.signed.proofs.NumberLaws.{symbol-minus}
 use Rattle.signed.proofs.CapLaws.{Cap, one-room, cap-at, at-cap}
 use Rattle.signed.proofs.Totals.{shown-symbol, symbol-shown, reading-symbol, total-below, shown-total}
@@ -63,9 +62,9 @@ module _ (P : Pool) (m : ℕ) where
             (omega (arith, least-size (at W i))));
       }
 
-  small-travels : (L : ℕ) (W : List ℕ) → 2 ≤ P .q → Small (P .q) (users P) L W → W ≡ travelling P (map least W)
+  small-travels : (L : ℕ) (W : List ℕ) → 2 ≤ P .q → Small (P .q) (users P) L W → W ≡ travelling (P .q) (map least W)
   small-travels L W two s =
-      ext-getD 0 W (travelling P (map least W)) (sym (length-map (map least W) (symbolOf (P .q)) ∙ length-map W least))
+      ext-getD 0 W (travelling (P .q) (map least W)) (sym (length-map (map least W) (symbolOf (P .q)) ∙ length-map W least))
       (λ i l. sym (map-get (symbolOf (P .q)) (map least W) i (pos 0) 0 (omega (arith, length-map W least))
       ∙ ap (symbolOf (P .q)) (map-get least W i 0 (pos 0) l)
       ∙ least-travels (P .q) (at W i) two (s .entries i (omega (arith, s .symbols .size)))))
@@ -74,14 +73,14 @@ module _ (P : Pool) (m : ℕ) where
 
   module _ (two : 2 ≤ P .q) (some : 0 < m) (agrees : ℕ → List ℕ → List ℕ → Type 0) (signed : ℕ → List ℤ → List ℤ → Type 0)
       (see : ℕ → List ℕ → List ℕ → List ℕ)
-      (alike : (L : ℕ) (R R′ : List ℤ) → Capped P m L R → Capped P m L R′ → signed L R R′ ↔ agrees L (travelling P R) (travelling P R′))
+      (alike : (L : ℕ) (R R′ : List ℤ) → Capped P m L R → Capped P m L R′ → signed L R R′ ↔ agrees L (travelling (P .q) R) (travelling (P .q) R′))
       (small : Leak (P .q) (P .rate) (Symbols (P .q) (users P)) agrees see → Leak (P .q) (P .rate) (Small (P .q) (users P)) agrees see) where
     inside-cap : Leak (P .q) (P .rate) (Small (P .q) (users P)) agrees see → SignedLeak P m signed see
     inside-cap k =
         let R : List ℤ = map least (k .W) in
         let R′ : List ℤ = map least (k .W′) in
-        let e : k .W ≡ travelling P R = small-travels (k .L) (k .W) two (k .W-in) in
-        let e′ : k .W′ ≡ travelling P R′ = small-travels (k .L) (k .W′) two (k .W′-in) in
+        let e : k .W ≡ travelling (P .q) R = small-travels (k .L) (k .W) two (k .W-in) in
+        let e′ : k .W′ ≡ travelling (P .q) R′ = small-travels (k .L) (k .W′) two (k .W′-in) in
         let c = small-capped (k .L) (k .W) some (k .W-in) in
         let c′ = small-capped (k .L) (k .W′) some (k .W′-in) in
         record {
@@ -93,7 +92,7 @@ module _ (P : Pool) (m : ℕ) where
           R-in = c;
           R′-in = c′;
           same = alike (k .L) R R′ c c′ .1
-              (subst (λ (X : List ℕ). agrees (k .L) (travelling P R) X) e′ (subst (λ (X : List ℕ). agrees (k .L) X (k .W′)) e (k .same)));
+              (subst (λ (X : List ℕ). agrees (k .L) (travelling (P .q) R) X) e′ (subst (λ (X : List ℕ). agrees (k .L) X (k .W′)) e (k .same)));
           s = k .s;
           unequal = λ x.
               k .unequal
@@ -109,8 +108,8 @@ module _ (P : Pool) (m : ℕ) where
           L = k .L;
           low = k .low;
           high = k .high;
-          W = travelling P (k .R);
-          W′ = travelling P (k .R′);
+          W = travelling (P .q) (k .R);
+          W′ = travelling (P .q) (k .R′);
           W-in = symbols-vector (P .q) (users P * k .L) (k .R) (omega arith) (k .R-in .size);
           W′-in = symbols-vector (P .q) (users P * k .L) (k .R′) (omega arith) (k .R′-in .size);
           same = alike (k .L) (k .R) (k .R′) (k .R-in) (k .R′-in) .0 (k .same);
@@ -123,14 +122,14 @@ module _ (P : Pool) (m : ℕ) where
 
   -- ---- sets of readings inside a cap that fits
 
-  module _ (prime : Prime (P .q)) (cap : Cap (users P) (P .q) m) where
+  module _ (cap : Cap (users P) (P .q) m) where
     module _ (L : ℕ) (R R′ : List ℤ) (c : Capped P m L R) (c′ : Capped P m L R′) where
       -- readings are told apart by their symbols
       shown-reading : (S : List ℤ) → T (allInCap m S) → (i p : ℕ) → i < users P
           → shownOf (P .q) (symbolOf (P .q) (signedReading L S i p)) ≡ signedReading L S i p
       shown-reading S t i p h = shown-symbol (P .q) m (signedReading L S i p) (cap-at m S t (i * L + p)) (one-room cap (omega arith))
 
-      pub members-alike : (g : ℕ) → SignedAgree P g L R R′ ↔ Agree P g L (travelling P R) (travelling P R′)
+      pub members-alike : (g : ℕ) → SignedAgree P g L R R′ ↔ Agree P g L (travelling (P .q) R) (travelling (P .q) R′)
       members-alike g = (
         (λ a. record {
           members = λ i p h t l.
@@ -148,21 +147,21 @@ module _ (P : Pool) (m : ℕ) where
       )
 
       -- and true sums by their totals: agreement on the totals modulo the prime is agreement on the true sums
-      shown-is : (S : List ℤ) → Capped P m L S → (p : ℕ) → p < L → shownOf (P .q) (total P L (travelling P S) p) ≡ trueSum (users P) (λ i. signedReading L S i p)
+      shown-is : (S : List ℤ) → Capped P m L S → (p : ℕ) → p < L → shownOf (P .q) (total P L (travelling (P .q) S) p) ≡ trueSum (users P) (λ i. signedReading L S i p)
       shown-is S d = shown-total P m L S (d .size) (d .inside) cap
 
       pub sums-alike : (p : ℕ) → p < L
-          → (total P L (travelling P R) p ≡ total P L (travelling P R′) p)
+          → (total P L (travelling (P .q) R) p ≡ total P L (travelling (P .q) R′) p)
           ↔ (trueSum (users P) (λ i. signedReading L R i p) ≡ trueSum (users P) (λ i. signedReading L R′ i p))
       sums-alike p l = (
         (λ e. sym (shown-is R c p l) ∙ ap (shownOf (P .q)) e ∙ shown-is R′ c′ p l),
         (λ e.
-            sym (symbol-shown (P .q) (total P L (travelling P R) p) (total-below P (prime-pos prime) L (travelling P R) p))
+            sym (symbol-shown (P .q) (total P L (travelling (P .q) R) p) (total-below P (omega (arith, cap .room)) L (travelling (P .q) R) p))
             ∙ ap (symbolOf (P .q)) (shown-is R c p l ∙ e ∙ sym (shown-is R′ c′ p l))
-            ∙ symbol-shown (P .q) (total P L (travelling P R′) p) (total-below P (prime-pos prime) L (travelling P R′) p)),
+            ∙ symbol-shown (P .q) (total P L (travelling (P .q) R′) p) (total-below P (omega (arith, cap .room)) L (travelling (P .q) R′) p)),
       )
 
-      pub agrees-alike : (g w : ℕ) → SignedAgrees P g w L R R′ ↔ Agrees P g w L (travelling P R) (travelling P R′)
+      pub agrees-alike : (g w : ℕ) → SignedAgrees P g w L R R′ ↔ Agrees P g w L (travelling (P .q) R) (travelling (P .q) R′)
       agrees-alike g zero = (
         (λ a. record { coalition = members-alike g .0 (a .coalition); totals = a .totals }),
         (λ a. record { coalition = members-alike g .1 (a .coalition); totals = a .totals }),
@@ -171,7 +170,7 @@ module _ (P : Pool) (m : ℕ) where
 
     -- ---- so a pair, and a joint observer
 
-    module _ (valid : Vector (P .q) (users P * P .rate) (P .table)) where
+    module _ (prime : Prime (P .q)) (valid : Vector (P .q) (users P * P .rate) (P .table)) where
       pub pair-alike : ZeroSum P → (g w : ℕ) → PairLeak P g w ↔ SignedPairLeak P m g w
       pair-alike zs g w =
           leak-alike (prime .two) (cap .some) (Agrees P g w) (SignedAgrees P g w) (view P g w)

@@ -12,8 +12,16 @@ use Rattle.residues.specs.Primes.{allBelow}
 use Rattle.plans.specs.declared.Plan.{Plan}
 use Rattle.plans.specs.Plans.{planChecks, lengthFits}
 use Rattle.masking.specs.Blocks.{uploadOf, unmaskedOf}
-use Rattle.signed.specs.Numbers.{symbolOf, shownOf}
+use Rattle.signed.specs.Numbers.{travelling, shownOf}
 use Rattle.signed.specs.Caps.{capFits, allInCap}
+
+-- what is written, whatever the cap is: of an upload the readings as they travel, with the key added; of taking a key off the readings, shown
+module _ (P : Plan) (L : ℕ) where
+  abbrev pub signedUploadOf : List ℤ → List ℕ → List ℕ
+  signedUploadOf readings key = uploadOf (P .q) L (travelling (P .q) readings) key
+
+  abbrev pub signedUnmaskedOf : List ℕ → List ℕ → List ℤ
+  signedUnmaskedOf upload key = map (shownOf (P .q)) (unmaskedOf (P .q) L upload key)
 
 module _ (P : Plan) (m L : ℕ) where
   -- 1, 2, 16, 9
@@ -32,12 +40,8 @@ module _ (P : Plan) (m L : ℕ) where
   abbrev pub signedUploadCode : List ℤ → List ℕ → List ℕ → Code
   signedUploadCode readings key out = firstOf (signedUploadChecks readings key out)
 
-  -- the readings as symbols, with the key added
-  abbrev pub signedUploadOf : List ℤ → List ℕ → List ℕ
-  signedUploadOf readings key = uploadOf (P .q) L (map (symbolOf (P .q)) readings) key
-
   abbrev pub signedUploadAfter : List ℤ → List ℕ → List ℕ → List ℕ
-  signedUploadAfter readings key out = ifAccepted (signedUploadCode readings key out) (signedUploadOf readings key) out
+  signedUploadAfter readings key out = ifAccepted (signedUploadCode readings key out) (signedUploadOf P L readings key) out
 
   -- taking a key off: "never gives 15"
   abbrev pub signedUnmaskChecks : List ℕ → List ℕ → List ℤ → List (Bool × Code)
@@ -50,12 +54,8 @@ module _ (P : Plan) (m L : ℕ) where
   abbrev pub signedUnmaskCode : List ℕ → List ℕ → List ℤ → Code
   signedUnmaskCode upload key out = firstOf (signedUnmaskChecks upload key out)
 
-  -- the readings, shown
-  abbrev pub signedUnmaskedOf : List ℕ → List ℕ → List ℤ
-  signedUnmaskedOf upload key = map (shownOf (P .q)) (unmaskedOf (P .q) L upload key)
-
   abbrev pub signedUnmaskAfter : List ℕ → List ℕ → List ℤ → List ℤ
-  signedUnmaskAfter upload key out = ifAccepted (signedUnmaskCode upload key out) (signedUnmaskedOf upload key) out
+  signedUnmaskAfter upload key out = ifAccepted (signedUnmaskCode upload key out) (signedUnmaskedOf P L upload key) out
 
   -- totals, shown
   abbrev pub totalsChecks : List ℕ → List ℤ → List (Bool × Code)

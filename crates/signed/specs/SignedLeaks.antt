@@ -3,27 +3,23 @@
 use Prim.Native.Nat.{ℕ, zero, suc, _*_, _≤_, _<_}
 use mathlib.Core.Path.{_≡_}
 use mathlib.Core.Logic.{_≢_}
-use mathlib.Core.List.{List, map}
+use mathlib.Core.List.{List}
 use lib.Dec.{T}
 use lib.IntN.{ℤ}
 use lib.ListN.{length}
 use Rattle.secrecy.specs.Model.{Pool, users, inCoalition, inEither, setView, view, total}
 use Rattle.secrecy.specs.Leaks.{longest, keysShowing}
-use Rattle.signed.specs.Numbers.{symbolOf, signedReading}
+use Rattle.signed.specs.Numbers.{travelling, signedReading}
 use Rattle.signed.specs.Caps.{allInCap}
 
 module _ (P : Pool) where
-  -- the readings as they travel
-  abbrev pub travelling : List ℤ → List ℕ
-  travelling R = map (symbolOf (P .q)) R
-
   -- two sets of signed readings agree on the coalition's members; and, for the server, on the total modulo the prime
   pub record SignedAgree (g L : ℕ) (R R′ : List ℤ) : Type 0 where
     pub members : (i p : ℕ) → i < users P → T (inCoalition g i) → p < L → signedReading L R i p ≡ signedReading L R′ i p
 
   pub record SignedServerAgree (g L : ℕ) (R R′ : List ℤ) : Type 0 where
     pub coalition : SignedAgree g L R R′
-    pub totals : (p : ℕ) → p < L → total P L (travelling R) p ≡ total P L (travelling R′) p
+    pub totals : (p : ℕ) → p < L → total P L (travelling (P .q) R) p ≡ total P L (travelling (P .q) R′) p
 
   abbrev pub SignedAgrees : ℕ → ℕ → ℕ → List ℤ → List ℤ → Type 0
   SignedAgrees g zero = SignedServerAgree g
@@ -36,7 +32,7 @@ module _ (P : Pool) where
 
   -- among all source keys, how many show s under the signed readings R
   abbrev pub signedShowing : (ℕ → List ℕ → List ℕ → List ℕ) → ℕ → List ℤ → List ℕ → ℕ
-  signedShowing see L R s = keysShowing (P .q) (P .rate) see L (travelling R) s
+  signedShowing see L R s = keysShowing (P .q) (P .rate) see L (travelling (P .q) R) s
 
   -- two sets of signed readings inside the cap that agree, and a view with unequal numbers
   pub record SignedLeak (m : ℕ) (agrees : ℕ → List ℤ → List ℤ → Type 0) (see : ℕ → List ℕ → List ℕ → List ℕ) : Type 0 where

@@ -1,5 +1,5 @@
-// Signed uploads, taking a key off, and totals shown. Nothing here branches on a reading or a key or divides one, once the readings are known to be inside the
-// cap and the key to be symbols.
+// Signed uploads, taking a key off, and totals shown. Once the readings are known to be inside the cap and the key to be symbols, no jump and no division on one
+// was seen (docs/MACHINE-CODE.md).
 ghost use mathlib.Core.Path.{_≡_};
 ghost use Prim.Native.Nat.{_-_, _<_};
 ghost use mathlib.Core.Bool.{not, _&&_};
@@ -55,7 +55,7 @@ fn check_shape(plan: Plan, cap: u32, length: usize, sized: bool) -> Verdict
     Verdict::Accepted
 }
 
-// These, and 15 and 3.
+// An upload: the shape, then 15 and 3.
 fn check_upload(
     plan: Plan,
     cap: u32,
@@ -80,7 +80,7 @@ fn check_upload(
     Verdict::Accepted
 }
 
-// These, and 3.
+// Taking a key off: the shape, then 3.
 fn check_unmask(
     plan: Plan,
     cap: u32,
@@ -102,7 +102,7 @@ fn check_unmask(
     Verdict::Accepted
 }
 
-// The same of one block.
+// Totals: the shape, then 3.
 fn check_totals(plan: Plan, cap: u32, length: usize, totals: &[Symbol], out: &[i32]) -> Verdict
     ensures { λ r. ⌜ verdictCode r ≡ totalsCode plan cap length (now (totals .entry)) (now (out .entry)) ⌝ }
 {
@@ -117,7 +117,7 @@ fn check_totals(plan: Plan, cap: u32, length: usize, totals: &[Symbol], out: &[i
     Verdict::Accepted
 }
 
-// Position by position, by the same instructions whatever the readings are.
+// Position by position: the reading as a symbol, and the key added.
 fn write_upload(q: Symbol, readings: &[i32], key: &[Symbol], out: &mut [Symbol])
     requires { ⌜ (0 < q) × (length (now readings) ≡ length (now out)) × (length (now key) ≡ length (now out)) × T (allInCap (q - 1) (now readings))
         × T (allBelow q (now key)) ⌝ }

@@ -1,5 +1,5 @@
 // A signed number as a symbol, and a symbol as the signed number that it shows. Both arms of a choice are sums that are at hand, in a width that holds a
-// symbol with a sign. No jump on a reading was seen in the machine code of travels and shown (x86-64); that is what was seen, and no promise.
+// symbol with a sign. No jump on a reading was seen in the machine code of travels and shown (docs/MACHINE-CODE.md); that is what was seen, and no promise.
 ghost use mathlib.Core.Path.{_≡_};
 ghost use Prim.Native.Nat.{_<_};
 ghost use lib.IntN.{natAbs};
@@ -23,7 +23,7 @@ pub(crate) fn symbol_of(q: Symbol, w: i32) -> Symbol
     travels(q, w) as Symbol
 }
 
-// Of t and t − q the one that is nearer to 0, and t − q where both are as near. (A test of 2 × t alone compiled to a jump where a key is taken off.)
+// Of t and t − q the one that is nearer to 0, and t − q where both are as near: written as a sum of both, so that the compiler makes no jump of it.
 pub(crate) fn shown(q: Symbol, t: Symbol) -> i32
     requires { ⌜ t < q ⌝ }
     ensures { λ r. ⌜ r ≡ shownOf q t ⌝ }
