@@ -3,6 +3,7 @@ mod places;
 mod rolling;
 
 use refusals::Verdict;
+pub use rolling::push_total;
 
 // What is kept of a run of totals: how many are asked for, how many are held, those, oldest first, with 0 past them, and their sum.
 pub struct Window {
@@ -16,6 +17,13 @@ pub struct Window {
 pub struct Step {
     pub verdict: Verdict,
     pub window: Window,
+}
+
+// The answer to a step on lent totals, and what the window has beside them after it.
+pub struct Pushed {
+    pub verdict: Verdict,
+    pub held: usize,
+    pub sum: i64,
 }
 
 // The answer, and the sum, which is 0 where it is refused.

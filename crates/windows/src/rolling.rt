@@ -10,6 +10,7 @@ ghost use Rattle.windows.specs.Windows.{maxSpan, spanFits, isWindow, win
 ghost use Rattle.windows.specs.Windows.{givenSum, largestCode, givenLargest};
 use crate::GivenLargest;
 use crate::GivenSum;
+use crate::Pushed;
 use crate::Step;
 use crate::Window;
 use crate::places::all_zero;
@@ -52,6 +53,48 @@ fn is_left(span: usize, held: usize, sum: i64, totals: &[i32; Window::MAX_SPAN])
     sum_of(totals, held) == sum
 }
 
+// An array by value has as many places as its type says; of a lent one the proof has to be told. No instruction is left of it.
+fn know_places(totals: [i32; Window::MAX_SPAN])
+    ensures { λ _. ⌜ length totals ≡ maxSpan ⌝ }
+{}
+
+// One total more into a window whose totals are lent, so that none is copied; where there is no room, the oldest makes it.
+pub fn push_total(
+    totals: &mut [i32; Window::MAX_SPAN],
+    span: usize,
+    held: usize,
+    sum: i64,
+    total: i32,
+) -> Pushed
+    ensures code { λ r. ⌜ verdictCode (r .verdict) ≡ windowCode (record { span = span; held = held; totals = now (totals .entry); sum = sum }) ⌝ }
+    ensures window { λ r. ⌜ record { span = span; held = r .held; totals = now (totals .exit); sum = r .sum }
+        ≡ pushedWindow (record { span = span; held = held; totals = now (totals .entry); sum = sum }) total ⌝ }
+{
+    know_places(*totals);
+    if !is_left(span, held, sum, totals) {
+        return Pushed {
+            verdict: Verdict::Refused(Refusal::BadWindow),
+            held,
+            sum,
+        };
+    }
+    if held < span {
+        totals[held] = total;
+        return Pushed {
+            verdict: Verdict::Accepted,
+            held: held + 1,
+            sum: sum + total as i64,
+        };
+    }
+    let oldest = totals[0];
+    shift(totals, held, total);
+    Pushed {
+        verdict: Verdict::Accepted,
+        held,
+        sum: sum - oldest as i64 + total as i64,
+    }
+}
+
 impl Window {
     // The longest span.
     pub const MAX_SPAN: usize = 96;
@@ -91,27 +134,16 @@ impl Window {
         ensures code { λ r. ⌜ verdictCode (r .verdict) ≡ windowCode self ⌝ }
         ensures window { λ r. ⌜ r .window ≡ pushedWindow self total ⌝ }
     {
+        let span = self.span;
         let held = self.held;
-        if !is_left(self.span, held, self.sum, &self.totals) {
-            return Step {
-                verdict: Verdict::Refused(Refusal::BadWindow),
-                window: self,
-            };
-        }
-        if held < self.span {
-            self.totals[held] = total;
-            self.held = held + 1;
-            self.sum += total as i64;
-            return Step {
-                verdict: Verdict::Accepted,
-                window: self,
-            };
-        }
-        let oldest = self.totals[0];
-        self.sum = self.sum - oldest as i64 + total as i64;
-        shift(&mut self.totals, held, total);
+        let sum = self.sum;
+        let next = push_total(&mut self.totals, span, held, sum, total);
+        let verdict = next.verdict;
+        let more = next.sum;
+        self.held = next.held;
+        self.sum = more;
         Step {
-            verdict: Verdict::Accepted,
+            verdict,
             window: self,
         }
     }

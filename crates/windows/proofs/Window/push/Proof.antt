@@ -1,183 +1,45 @@
-use Prim.Native.Nat.{_+_, _*_, _^_, _<_, _≤_}
 use borrow.Author.Needs.{needs}
-use borrow.Author.Tests.{not-true, not-false}
-use mathlib.Core.Path.{_≡_, refl, sym, ap, ap₂, _∙_, subst}
-use mathlib.Core.Bool.{true, false}
-use mathlib.Core.List.{[], _∷_, _++_}
-use native.Mathlib.Omega.{arith}
-use lib.IntN.{ℤ, pos, natAbs, _+ℤ_, _-ℤ_}
-use lib.ListN.{length, set, getD, drop}
+use mathlib.Core.Path.{_≡_, sym, ap, ap₂, _∙_}
+use Prim.Native.Nat.{_^_, _<_}
+use lib.IntN.{ℤ}
 use lib.Signed.{mag}
 use mir.Syntax.{w32, w64}
-use mir.Val.{SFits, toZ, ofZ}
+use mir.Val.{toZ, ofZ}
 use mir.Facts.{toZ-ofZ}
-use Rattle.integers.proofs.Bits.{back, widens, widened}
+use Rattle.integers.proofs.Bits.{back}
 use Rattle.windows.specs.declared.Window.{Window}
-use Rattle.windows.specs.Windows.{maxSpan, isWindow, windowOf, heldOf}
-use Rattle.windows.proofs.RunLaws.{sum-bound, difference-bound, bound-fits}
-use Rattle.windows.proofs.WindowLaws.{Good, tested, good, push-room, push-full, gives-new, keeps-17}
+use Rattle.windows.specs.Windows.{windowCode, pushedWindow}
 use Rattle.windows.proofs.Window.push.Statement.{statement}
 use Rattle.windows.proofs.Window.push.Tie as tie
 
-abbrev window : tie.Start → Window
-window s = s .args .t1
-
--- the window with one total more
-abbrev next : tie.Start → Window
-next s = windowOf (window s .span) (heldOf (window s) ++ (s .args .total ∷ []))
-
-places : (s : tie.Start) → length (window s .totals) ≡ maxSpan
-places s = search needs
-
-range : (s : tie.Start) → mag (window s .sum) < 2 ^ 63
+range : (s : tie.Start) → mag (s .args .t1 .sum) < 2 ^ 63
 range s = search needs
 
--- ---- the test
+more : (c : tie.After-push-total) → mag (c .push-total .result .sum) < 2 ^ 63
+more c = search needs
 
-abbrev start : tie.After-is-left → tie.Start
-start c = c .before .before .before .before
-
-tests : (c : tie.After-is-left) → c .is-left .result ≡ isWindow (window (start c))
-tests c = tested (window (start c)) (range (start c)) (c .is-left .ensures .0)
+-- the window as it is lent, its sum having gone through its bits
+abbrev lent : Window → ℤ → Window
+lent W z = record { span = W .span; held = W .held; totals = W .totals; sum = z }
 
 returns : tie.Need-returns
 returns c =
-    let s = start (c .before) in
-    keeps-17 (isWindow (window s)) false (next s) (window s) (sym (tests (c .before)) ∙ not-true _ (c .if1 .taken))
-
-passes : (c : tie.Else1) → isWindow (window (start (c .before))) ≡ true
-passes c = sym (tests (c .before)) ∙ not-false _ (c .if1 .left)
-
-known : (c : tie.Else1) → Good (window (start (c .before)))
-known c = good (window (start (c .before))) (passes c)
-
-small : (c : tie.Else1) → natAbs (window (start (c .before)) .sum) ≤ maxSpan * 2 ^ 31
-small c =
-    let s = start (c .before) in
-    subst (λ (z : ℤ). natAbs z ≤ maxSpan * 2 ^ 31) (back w64 (window s .sum) (range s)) (c .before .is-left .ensures .1 (not-false _ (c .if1 .left)))
-
--- an i64, and an i32 cast to one, as the machine reads them
-abbrev wide : ℤ → ℤ
-wide z = toZ w64 (ofZ w64 z)
-
-abbrev cast : ℤ → ℤ
-cast z = wide (toZ w32 (ofZ w32 z))
-
--- ---- there is room
-
-module _ (s : tie.Start) (low : natAbs (window s .sum) ≤ maxSpan * 2 ^ 31) where
-  -- the sum as the machine makes it
-  added : wide (window s .sum) +ℤ cast (s .args .total) ≡ window s .sum +ℤ s .args .total
-  added = ap₂ (λ (a b : ℤ). a +ℤ b) (back w64 (window s .sum) (range s)) (widened {z = s .args .total} (s .fits .total))
-
-  added-fits : SFits w64 (wide (window s .sum) +ℤ cast (s .args .total))
-  added-fits =
-      let bound = sum-bound (window s .sum) (s .args .total) maxSpan low (s .fits .total .sfits) in
-      subst (SFits w64) (sym added) (bound-fits (window s .sum +ℤ s .args .total) (omega (arith, bound)))
-
-returns-2 : tie.Need-returns-2
-returns-2 c =
-    let e = c .before .before in
-    let s = start (e .before) in
-    let W = window s in
-    let (answer, new) = gives-new (isWindow W) false (next s) W (passes e) refl in (
-      answer,
+    let p = c .before in
+    let s = p .before .before .before in
+    let W = s .args .t1 in
+    let is : lent W (toZ w64 (ofZ w64 (W .sum))) ≡ W = ap (lent W) (back w64 (W .sum) (range s)) in
+    let (answer, window) = p .push-total .ensures in (
+      answer ∙ ap windowCode is,
       (λ i.
           record {
             span = W .span;
-            held = W .held + 1;
-            totals = set (W .totals) (W .held) (toZ-ofZ (s .fits .total) i);
-            sum = (toZ-ofZ (added-fits s (small e)) ∙ added s (small e)) i;
+            held = p .push-total .result .held;
+            totals = p .push-total .last .0;
+            sum = back w64 (p .push-total .result .sum) (more p) i;
           })
-          ∙ push-room W (places s) (known e) (s .args .total) (c .before .if2 .taken)
-          ∙ new,
-    )
-
--- ---- the oldest makes room
-
-abbrev oldest : tie.Start → ℤ
-oldest s = getD (window s .totals) 0 (pos 0)
-
-module _ (s : tie.Start) (low : natAbs (window s .sum) ≤ maxSpan * 2 ^ 31) (fit : mag (oldest s) < 2 ^ 31) where
-  less : wide (window s .sum) -ℤ cast (oldest s) ≡ window s .sum -ℤ oldest s
-  less = ap₂ (λ (a b : ℤ). a -ℤ b) (back w64 (window s .sum) (range s)) (widened {z = oldest s} (record { sfits = fit }))
-
-  less-small : natAbs (window s .sum -ℤ oldest s) ≤ (maxSpan + 1) * 2 ^ 31
-  less-small = difference-bound (window s .sum) (oldest s) maxSpan low fit
-
-  less-fits : SFits w64 (wide (window s .sum) -ℤ cast (oldest s))
-  less-fits = subst (SFits w64) (sym less) (bound-fits (window s .sum -ℤ oldest s) (omega (arith, less-small)))
-
-  moved : wide (wide (window s .sum) -ℤ cast (oldest s)) +ℤ cast (s .args .total) ≡ (window s .sum -ℤ oldest s) +ℤ s .args .total
-  moved = ap₂ (λ (a b : ℤ). a +ℤ b) (toZ-ofZ less-fits ∙ less) (widened {z = s .args .total} (s .fits .total))
-
-  moved-fits : SFits w64 (wide (wide (window s .sum) -ℤ cast (oldest s)) +ℤ cast (s .args .total))
-  moved-fits =
-      let bound = sum-bound (window s .sum -ℤ oldest s) (s .args .total) (maxSpan + 1) less-small (s .fits .total .sfits) in
-      subst (SFits w64) (sym moved) (bound-fits ((window s .sum -ℤ oldest s) +ℤ s .args .total) bound)
-
--- where the oldest is read
-abbrev test : tie.After-oldest → tie.Else1
-test o = o .before .before
-
-abbrev first : tie.After-oldest → tie.Start
-first o = start (test o .before)
-
-cast-self-2 : tie.Need-cast-self-2
-cast-self-2 c = widens {z = oldest (first (c .before))} (record { sfits = c .before .oldest .given })
-
-sub-self : tie.Need-sub-self
-sub-self c = less-fits (first (c .before)) (small (test (c .before))) (c .before .oldest .given)
-
-cast-self-3 : tie.Need-cast-self-3
-cast-self-3 c = let s = first (c .before) in widens {z = s .args .total} (s .fits .total)
-
-add-self-3 : tie.Need-add-self-3
-add-self-3 c = moved-fits (first (c .before)) (small (test (c .before))) (c .before .oldest .given)
-
-shift-requires : tie.Need-shift-requires
-shift-requires c κs =
-    let o = c .before .before in
-    let g = known (test o) in
-    (places (first o), omega (arith, g .low, o .before .if2 .left), omega (arith, g .few, g .high))
-
-returns-3 : tie.Need-returns-3
-returns-3 c =
-    let o = c .before .before .before in
-    let e = test o in
-    let s = first o in
-    let W = window s in
-    let (answer, new) = gives-new (isWindow W) false (next s) W (passes e) refl in (
-      answer,
-      (λ i.
-          record {
-            span = W .span;
-            held = W .held;
-            totals =
-                (c .shift .ensures
-                ∙ ap (λ (t : ℤ). (drop 1 (heldOf W) ++ (t ∷ [])) ++ drop (W .held) (W .totals)) (toZ-ofZ (s .fits .total))) i;
-            sum = (toZ-ofZ (moved-fits s (small e) (o .oldest .given)) ∙ moved s (small e) (o .oldest .given)) i;
-          })
-          ∙ push-full W (places s) (known e) (s .args .total) (o .before .if2 .left)
-          ∙ new,
+          ∙ window
+          ∙ ap₂ pushedWindow is (toZ-ofZ (s .fits .total)),
     )
 
 pub push-spec : {M : Type 1} → statement M
-push-spec =
-    tie.close
-    (tie.spec
-    (λ c κs. search needs)
-    returns
-    (λ c. omega (arith, c .if2 .taken, known (c .before) .high))
-    (λ c. omega (arith, c .if2 .taken, known (c .before) .high))
-    (search needs)
-    (λ c. let s = start (c .before .before) in widens {z = s .args .total} (s .fits .total))
-    (λ c. added-fits (start (c .before .before .before)) (small (c .before .before)))
-    returns-2
-    (search needs)
-    cast-self-2
-    sub-self
-    cast-self-3
-    add-self-3
-    shift-requires
-    returns-3)
+push-spec = tie.close (tie.spec (λ c κs. tt) returns)
