@@ -1,30 +1,31 @@
 -- The window's theorems: which windows a run leaves; and that pushing along a run keeps the sum and the largest of its last totals.
-use Prim.Native.Nat.{ℕ, zero, suc, _-_, _<_}
-use mathlib.Core.Path.{_≡_, refl, sym, ap, _∙_, subst}
+use Prim.Native.Nat.{ℕ, zero, suc, _-_, _^_, _≤_, _<_}
+use mathlib.Core.Path.{_≡_, refl, sym, ap, ap₂, _∙_, subst}
 use mathlib.Core.Logic.{_↔_, _⊎_, inl, inr, ⊎-elim}
 use mathlib.Core.Bool.{Bool, true, false, cond}
 use mathlib.Core.List.{List, [], _∷_, _++_, append-assoc, append-nil}
 use native.Mathlib.Omega.{arith}
 use native.Mathlib.Nat.{not-suc-le-zero}
 use lib.Dec.{eqb}
-use lib.IntN.{ℤ, pos}
-use lib.ListN.{length, drop, getD, take-append-drop, length-drop}
-use lib.Signed.{ltZ, _≤ℤ_, ≤ℤ-refl}
-use borrow.Author.Tests.{eq-eqb, ne-eqb}
-use mir.Syntax.{w32}
+use lib.IntN.{ℤ, pos, negℤ}
+use lib.ListN.{length, take, drop, getD, take-append-drop, length-drop}
+use lib.Signed.{ltZ, _≤ℤ_, _<ℤ_, ≤ℤ-refl}
+use borrow.Author.Tests.{eq-eqb, ne-eqb, eqb-true}
+use mir.Syntax.{w32, w64}
 use mir.Val.{SFits}
 use Rattle.lists.specs.Lists.{All}
-use Rattle.lists.proofs.Members.{all-left, all-map}
+use Rattle.lists.proofs.Members.{all-left, all-right, all-map}
 use Rattle.refusals.specs.Codes.{code, accepted}
-use Rattle.refusals.proofs.CodeLaws.{accepted-takes}
+use Rattle.refusals.specs.declared.Refusal.the-variants.{NotFull, BadWindow}
+use Rattle.refusals.proofs.CodeLaws.{accepted-takes, refused-keeps}
 use Rattle.integers.proofs.Parts.{less-true, less-false, order-parts, parts-order}
 use Rattle.integers.proofs.Bits.{fits-range}
 use Rattle.windows.specs.declared.Window.{Window}
 use Rattle.windows.specs.Runs.{sumOf, larger, largestFrom, largestOf, lastOf}
 use Rattle.windows.specs.Windows.{maxSpan, spanFits, placed, windowOf, heldOf, IsTotal, isWindow, Left, openCode, openedWindow}
 use Rattle.windows.specs.Windows.{windowCode, pushedWindow, givenSum, largestCode, givenLargest, pushedAll}
-use Rattle.windows.proofs.RunLaws.{last-last, last-all}
-use Rattle.windows.proofs.WindowLaws.{good, good-is, held-is, left-passes, fits-low, answers-0, answers-12}
+use Rattle.windows.proofs.RunLaws.{last-last, last-all, last-few, sum-size, bound-fits}
+use Rattle.windows.proofs.WindowLaws.{good, good-is, held-is, left-passes, fits-low, fits-high, answers-0, answers-12, empty-iff}
 
 -- ---- "a window handed in is one that no run of totals leaves": the test finds it, and nothing else
 
@@ -49,8 +50,28 @@ left-iff W places totals = (
 )
 
 -- and there is one way to write it: span and last totals are those of the run
-pub left-once : (n n′ : ℕ) (run run′ : List ℤ) → windowOf n run ≡ windowOf n′ run′ → (n ≡ n′) × (lastOf n run ≡ lastOf n′ run′)
-left-once n n′ run run′ e = (ap (λ (W : Window). W .span) e, sym (held-is n run) ∙ ap heldOf e ∙ held-is n′ run′)
+pub left-once : (n n′ : ℕ) (run run′ : List ℤ) → (windowOf n run ≡ windowOf n′ run′) ↔ ((n ≡ n′) × (lastOf n run ≡ lastOf n′ run′))
+left-once n n′ run run′ = (
+  (λ e. (ap (λ (W : Window). W .span) e, sym (held-is n run) ∙ ap heldOf e ∙ held-is n′ run′)),
+  (λ (e, l). ap₂ (λ (k : ℕ) (r : List ℤ). record { span = k; held = length r; totals = placed r; sum = sumOf r }) e l),
+)
+
+-- a refusal leaves the window, and its figures are 0
+module _ (W : Window) where
+  pub refused-left : windowCode W ≡ code 17 → ((t : ℤ) → pushedWindow W t ≡ W) × (givenSum W ≡ pos 0)
+  refused-left e = (
+    (λ t. refused-keeps (windowCode W) (windowOf (W .span) (heldOf W ++ (t ∷ []))) W BadWindow (sym e)),
+    refused-keeps (windowCode W) (sumOf (heldOf W)) (pos 0) BadWindow (sym e),
+  )
+
+  pub refused-largest : (largestCode W ≡ code 17) ⊎ (largestCode W ≡ code 12) → givenLargest W ≡ pos 0
+  refused-largest =
+      ⊎-elim
+      (λ e. refused-keeps (largestCode W) (largestOf (heldOf W)) (pos 0) BadWindow (sym e))
+      (λ e. refused-keeps (largestCode W) (largestOf (heldOf W)) (pos 0) NotFull (sym e))
+
+pub refused-opening : (n : ℕ) → openCode n ≡ code 17 → openedWindow n ≡ windowOf 0 []
+refused-opening n e = refused-keeps (openCode n) (windowOf n []) (windowOf 0 []) BadWindow (sym e)
 
 -- ---- along a run
 
@@ -93,6 +114,15 @@ module _ (n : ℕ) (fits : spanFits n ≡ true) where
   pub sum-afresh : (run : List ℤ) → givenSum (windowOf n run) ≡ sumOf (lastOf n run)
   sum-afresh run = accepted-takes (windowCode (windowOf n run)) (sumOf (heldOf (windowOf n run))) (pos 0) (left-code run) ∙ ap sumOf (held-is n run)
 
+  -- in 64 bits
+  pub sum-range : (run : List ℤ) → All IsTotal run → (negℤ (pos (2 ^ 63)) ≤ℤ sumOf (lastOf n run)) × (sumOf (lastOf n run) <ℤ pos (2 ^ 63))
+  sum-range run totals =
+      let d : ℕ = length run - n in
+      let last : List ℤ = lastOf n run in
+      let size = sum-size last (all-right IsTotal (take d run) last (subst (All IsTotal) (sym (take-append-drop d run)) totals)) in
+      let few : length last ≤ maxSpan = omega (arith, last-few n run, fits-high n fits) in
+      fits-range w64 (sumOf last) (bound-fits (sumOf last) (omega (arith, size, few)))
+
   -- and the largest, once there is a total
   pub largest-afresh : (run : List ℤ) → 0 < length run → givenLargest (windowOf n run) ≡ largestOf (lastOf n run)
   largest-afresh run h =
@@ -107,6 +137,17 @@ module _ (n : ℕ) (fits : spanFits n ≡ true) where
   none-largest =
       let none : length (lastOf n []) ≡ 0 = ap length (last-all n [] (omega arith)) in
       sym (answers-12 (isWindow (windowOf n [])) (eqb (length (lastOf n [])) 0) (left-passes n [] fits) (eq-eqb (length (lastOf n [])) 0 none))
+
+-- 12 is answered of what no total leaves, and of nothing else
+pub none-iff : (W : Window) → length (W .totals) ≡ maxSpan → (largestCode W ≡ code 12) ↔ ((n : ℕ) × (spanFits n ≡ true) × (W ≡ openedWindow n))
+none-iff W places = (
+  (λ e.
+      let (passes, none) = empty-iff (isWindow W) (eqb (W .held) 0) .0 e in
+      let g = good W passes in
+      let empty : heldOf W ≡ [] = ap (λ (k : ℕ). take k (W .totals)) (eqb-true (W .held) 0 none) in
+      (W .span, g .fits, good-is W places g ∙ ap (windowOf (W .span)) empty ∙ sym (opened-is (W .span) (g .fits)))),
+  (λ (n, fits, is). ap largestCode (is ∙ opened-is n fits) ∙ none-largest n fits),
+)
 
 -- ---- what the largest is
 

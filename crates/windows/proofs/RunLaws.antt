@@ -8,18 +8,19 @@ use native.Mathlib.Numerals.{add-one}
 use native.Mathlib.Omega.{arith}
 use native.Mathlib.Decide.{ℕ-discrete}
 use lib.Dec.{T, eqb}
-use lib.IntN.{ℤ, pos, negsuc, _+ℤ_, _-ℤ_, natAbs, +ℤ-assoc, +ℤ-idl, +ℤ-idr}
+use lib.IntN.{ℤ, pos, negsuc, negℤ, _+ℤ_, _-ℤ_, natAbs, +ℤ-assoc, +ℤ-idl, +ℤ-idr}
 use lib.ListN.{length, take, drop, set, getD, replicate, drop-of-length-le, length-drop, length-append}
 use lib.Seq.{take-suc, drop-cons, drop-append-le, drop-drop, length-take-le, getD-append-add, getD-drop, set-at, append-snoc, take-nil}
-use lib.Signed.{mag, ltZ, natAbs-le}
+use lib.Signed.{mag, ltZ, _<ℤ_, natAbs-le}
 use borrow.Author.Tests.{eqb-true, eq-eqb, ne-eqb}
 use mir.Syntax.{w32, w64}
 use mir.Val.{SFits, toZ, ofZ}
 use Rattle.lists.proofs.Searches.{T-and, T→true, true→T}
-use Rattle.integers.proofs.Parts.{one-part, same-parts, abs-parts, sum-parts, difference-parts}
+use Rattle.lists.specs.Lists.{All}
+use Rattle.integers.proofs.Parts.{one-part, same-parts, abs-parts, sum-parts, difference-parts, less-true, order-parts, neg-up, neg-dn}
 use Rattle.integers.proofs.Bits.{back, fits-parts}
 use Rattle.windows.specs.Runs.{sumOf, larger, largestFrom, largestOf, lastOf, same, allZero}
-use Rattle.windows.specs.Windows.{maxSpan}
+use Rattle.windows.specs.Windows.{maxSpan, IsTotal}
 
 -- ---- sums
 
@@ -61,6 +62,19 @@ difference-bound s t k h l =
 
 pub bound-fits : (z : ℤ) → natAbs z ≤ (maxSpan + 2) * 2 ^ 31 → SFits w64 z
 bound-fits z h = fits-parts w64 z (omega (arith, abs-parts z)) (omega (arith, abs-parts z))
+
+-- and so has every number of a run of totals
+total-size : (t : ℤ) → IsTotal t → natAbs t ≤ 2 ^ 31
+total-size t (low, high) =
+    let end : ℤ = pos (2 ^ 31) in
+    omega (arith, abs-parts t, one-part t, order-parts (negℤ end) t low, neg-up end, neg-dn end, less-true t end (T→true (ltZ t end) (high .lt)))
+
+pub sum-size : (run : List ℤ) → All IsTotal run → natAbs (sumOf run) ≤ length run * 2 ^ 31
+unfolding sumOf
+sum-size [] h = omega arith
+sum-size (t ∷ run) h =
+    let s : ℤ = sumOf run in
+    omega (arith, sum-parts t s, one-part (t +ℤ s), abs-parts (t +ℤ s), abs-parts t, abs-parts s, total-size t (h .0), sum-size run (h .1))
 
 -- ---- tests
 

@@ -32,6 +32,9 @@ fits-low n e = leb→le 1 n (T-and (leb 1 n) (leb n maxSpan) (true→T (spanFits
 pub fits-high : (n : ℕ) → spanFits n ≡ true → n ≤ maxSpan
 fits-high n e = leb→le n maxSpan (T-and (leb 1 n) (leb n maxSpan) (true→T (spanFits n) e) .1)
 
+pub span-iff : (n : ℕ) → (spanFits n ≡ true) ↔ ((1 ≤ n) × (n ≤ maxSpan))
+span-iff n = ((λ e. (fits-low n e, fits-high n e)), (λ (low, high). rw (le-leb 1 n low, le-leb n maxSpan high)))
+
 pub record Good (W : Window) : Type 0 where
   pub fits : spanFits (W .span) ≡ true
   pub low : 1 ≤ W .span
@@ -203,3 +206,8 @@ pub refused-iff : (passed none : Bool) → (answerOf passed none ≡ code 17) �
 refused-iff false none = ((λ _ e. true→T false e), (λ _. refl))
 refused-iff true true = ((λ e. absurd (omega (arith, ap (λ (c : Code). c .number) e))), (λ f. absurd (f refl)))
 refused-iff true false = ((λ e. absurd (omega (arith, ap (λ (c : Code). c .number) e))), (λ f. absurd (f refl)))
+
+pub empty-iff : (passed none : Bool) → (answerOf passed none ≡ code 12) ↔ ((passed ≡ true) × (none ≡ true))
+empty-iff true true = ((λ _. (refl, refl)), (λ _. refl))
+empty-iff true false = ((λ e. absurd (omega (arith, ap (λ (c : Code). c .number) e))), (λ h. absurd (true→T false (h .1))))
+empty-iff false none = ((λ e. absurd (omega (arith, ap (λ (c : Code). c .number) e))), (λ h. absurd (true→T false (h .0))))
