@@ -75,17 +75,6 @@ pub fn window(run: &[u32; LONGEST], many: usize, n: usize) -> Window {
     }
 }
 
-// A window of nothing but zeros.
-pub fn nothing() -> Window {
-    let all = [0; Window::MAX_SPAN];
-    Window {
-        span: 0,
-        held: 0,
-        totals: all,
-        sum: 0,
-    }
-}
-
 fn same_totals(a: Window, b: Window) -> bool {
     for k in 0..Window::MAX_SPAN {
         let s = a.totals[k];

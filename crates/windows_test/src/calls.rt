@@ -7,6 +7,7 @@ use crate::numbers::compared;
 use crate::numbers::number_of;
 use crate::numbers::pick;
 use crate::numbers::total;
+use crate::runs::RIGHT;
 use crate::runs::fill;
 use crate::runs::length;
 use crate::runs::span;
@@ -59,18 +60,13 @@ pub fn opened(case: usize) -> usize {
     let step = Window::open(n);
     let verdict = step.verdict;
     let window = step.window;
-    if is_outside(n, Window::MAX_SPAN) {
-        return compared(
-            number_of(verdict),
-            BAD,
-            afresh::same(window, afresh::nothing()),
-        );
-    }
+    let outside = is_outside(n, Window::MAX_SPAN);
     let run = [0 as u32; LONGEST];
+    let want = afresh::window(&run, 0, over(outside, 0, n));
     compared(
         number_of(verdict),
-        0,
-        afresh::same(window, afresh::window(&run, 0, n)),
+        over(outside, BAD, 0),
+        afresh::same(window, want),
     )
 }
 
@@ -87,7 +83,7 @@ pub fn pushed(case: usize) -> usize {
     let n = span(x);
     let many = clip(length(x, n), LONGEST - 1);
     let mut run = [0 as u32; LONGEST];
-    fill(&mut run, x);
+    fill(&mut run, x, RIGHT);
     let given = handed(&run, many, n, x);
     let before = given.window;
     let step = before.push(total(at(&run, many)));
@@ -102,7 +98,7 @@ pub fn sum(case: usize) -> usize {
     let n = span(x);
     let many = clip(length(x, n), LONGEST);
     let mut run = [0 as u32; LONGEST];
-    fill(&mut run, x);
+    fill(&mut run, x, RIGHT);
     let given = handed(&run, many, n, x);
     let window = given.window;
     let answer = window.sum();
@@ -123,7 +119,7 @@ pub fn largest(case: usize) -> usize {
     let n = span(x);
     let many = clip(length(x, n), LONGEST);
     let mut run = [0 as u32; LONGEST];
-    fill(&mut run, x);
+    fill(&mut run, x, RIGHT);
     let given = handed(&run, many, n, x);
     let number = over(given.number > 0, given.number, over(many == 0, 12, 0));
     let window = given.window;

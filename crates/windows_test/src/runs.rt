@@ -2,6 +2,7 @@
 use crate::afresh;
 use crate::afresh::LONGEST;
 use crate::afresh::at;
+use crate::hours;
 use crate::numbers::DIFFER;
 use crate::numbers::HALF;
 use crate::numbers::WORD;
@@ -15,6 +16,11 @@ use testing::product;
 use testing::seed;
 use testing::state;
 use windows::Window;
+
+// How a run is played: as it is, with a mistake (1 and 2), or through rounds of a server, whose totals are shown.
+pub const RIGHT: usize = 0;
+
+pub const FED: usize = 3;
 
 // Often a quarter of an hour, one hour or a whole day.
 pub fn span(x: usize) -> usize {
@@ -45,9 +51,9 @@ fn kept(x: usize, i: usize) -> usize {
     }
 }
 
-pub fn fill(run: &mut [u32; LONGEST], x: usize) {
+pub fn fill(run: &mut [u32; LONGEST], x: usize, how: usize) {
     for i in 0..LONGEST {
-        run[i] = (kept(x, i) % WORD) as u32;
+        run[i] = (over(how == FED, hours::load(i), kept(x, i)) % WORD) as u32;
     }
 }
 
@@ -68,29 +74,35 @@ fn agrees(window: Window, run: &[u32; LONGEST], many: usize, n: usize) -> bool {
 }
 
 // A mistake is one in the last digit of a total, or a span that is one longer; it shows in the window if not in the figures.
-fn given(run: &[u32; LONGEST], i: usize, mistake: usize) -> i32 {
-    total(at(run, i) ^ over(mistake == 1, 1, 0))
+fn given(run: &[u32; LONGEST], i: usize, how: usize) -> i32 {
+    let u = at(run, i);
+    if how == FED {
+        return hours::shown(u, i);
+    }
+    total(u ^ over(how == 1, 1, 0))
 }
 
-pub fn played(case: usize, mistake: usize) -> usize {
+// Those through rounds have every span in turn.
+pub fn played(case: usize, how: usize) -> usize {
     let x = seed(case);
-    let n = span(x);
-    let many = over(mistake == 0, length(x, n), LONGEST);
+    let n = over(how == FED, case % Window::MAX_SPAN + 1, span(x));
+    let many = over(how == RIGHT, length(x, n), LONGEST);
+    let more = over(how == 2, 1, 0);
     let mut run = [0 as u32; LONGEST];
-    fill(&mut run, x);
+    fill(&mut run, x, how);
     let opening = Window::open(n);
     let verdict = opening.verdict;
     let mut window = opening.window;
     let mut number = number_of(verdict);
     for i in 0..many {
-        let step = window.push(given(&run, i, mistake));
+        let step = window.push(given(&run, i, how));
         let answer = step.verdict;
         window = step.window;
         let right = agrees(
             window,
             &run,
             wrapping_add_usize(i, 1),
-            wrapping_add_usize(n, mistake / 2),
+            wrapping_add_usize(n, more),
         );
         let good = right && number_of(answer) == 0;
         number = over(good, number, DIFFER);

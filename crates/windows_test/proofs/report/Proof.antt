@@ -4,10 +4,10 @@ use Rattle.windows_test.proofs.report.Statement.{statement}
 use Rattle.windows_test.proofs.report.Tie as tie
 
 abbrev Inv-loop : tie.InvT-loop
-Inv-loop kind many tally₀ case₀ tally case = Unit {0}
+Inv-loop name kind from to tally₀ case₀ tally case = Unit {0}
 
 abbrev μ-loop : tie.MeasureT-loop
-μ-loop kind many tally₀ case₀ tally case = many - case
+μ-loop name kind from to tally₀ case₀ tally case = to - case
 
 pub report-spec : {M : Type 1} → statement M
 report-spec =
@@ -15,8 +15,6 @@ report-spec =
     (tie.spec
     Inv-loop
     μ-loop
-    (search needs)
-    (search needs)
     (search needs)
     (search needs)
     (search needs)

@@ -4,10 +4,10 @@ use Rattle.windows_test.proofs.runs.played.Statement.{statement}
 use Rattle.windows_test.proofs.runs.played.Tie as tie
 
 abbrev Inv-loop : tie.InvT-loop
-Inv-loop case mistake x n many run window₀ number₀ i₀ window number i = Unit {0}
+Inv-loop case how x n many more run window₀ number₀ i₀ window number i = Unit {0}
 
 abbrev μ-loop : tie.MeasureT-loop
-μ-loop case mistake x n many run window₀ number₀ i₀ window number i = many - i
+μ-loop case how x n many more run window₀ number₀ i₀ window number i = many - i
 
 pub played-spec : {M : Type 1} → statement M
 played-spec =
@@ -15,6 +15,9 @@ played-spec =
     (tie.spec
     Inv-loop
     μ-loop
+    (search needs)
+    (search needs)
+    (search needs)
     (search needs)
     (search needs)
     (search needs)
