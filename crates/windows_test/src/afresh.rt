@@ -2,20 +2,13 @@
 use crate::numbers::HALF;
 use crate::numbers::difference;
 use crate::numbers::total;
+use arithmetic::Symbol;
 use std::num::wrapping_add_usize;
+use testing::at;
 use windows::Window;
 
 // No run is longer.
 pub const LONGEST: usize = 240;
-
-fn wide(u: u32) -> usize {
-    u as usize
-}
-
-// 0 past the end, so that no caller has to show that a place is inside.
-pub fn at(run: &[u32; LONGEST], i: usize) -> usize {
-    if i < LONGEST { wide(run[i]) } else { 0 }
-}
 
 // The place of the first of the last n.
 fn first(many: usize, n: usize) -> usize {
@@ -28,7 +21,7 @@ pub fn held(many: usize, n: usize) -> usize {
 }
 
 // The sum of the last n, and `more` less `fewer` on top.
-pub fn sum(run: &[u32; LONGEST], many: usize, n: usize, more: usize, fewer: usize) -> i64 {
+pub fn sum(run: &[Symbol], many: usize, n: usize, more: usize, fewer: usize) -> i64 {
     let mut kept = more;
     let mut halves = fewer;
     for i in first(many, n)..many {
@@ -39,7 +32,7 @@ pub fn sum(run: &[u32; LONGEST], many: usize, n: usize, more: usize, fewer: usiz
 }
 
 // The largest of the last n.
-pub fn largest(run: &[u32; LONGEST], many: usize, n: usize) -> i32 {
+pub fn largest(run: &[Symbol], many: usize, n: usize) -> i32 {
     let mut most: usize = 0;
     for i in first(many, n)..many {
         let u = at(run, i);
@@ -51,7 +44,7 @@ pub fn largest(run: &[u32; LONGEST], many: usize, n: usize) -> i32 {
 }
 
 // The totals of the last n, and 0 past them.
-fn totals(run: &[u32; LONGEST], many: usize, n: usize) -> [i32; Window::MAX_SPAN] {
+fn totals(run: &[Symbol], many: usize, n: usize) -> [i32; Window::MAX_SPAN] {
     let from = first(many, n);
     let last = held(many, n);
     let mut all = [0; Window::MAX_SPAN];
@@ -64,7 +57,7 @@ fn totals(run: &[u32; LONGEST], many: usize, n: usize) -> [i32; Window::MAX_SPAN
     all
 }
 
-pub fn window(run: &[u32; LONGEST], many: usize, n: usize) -> Window {
+pub fn window(run: &[Symbol], many: usize, n: usize) -> Window {
     let all = totals(run, many, n);
     let s = sum(run, many, n, 0, 0);
     Window {

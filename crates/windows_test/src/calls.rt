@@ -1,7 +1,6 @@
 // One call: an opening, or one on a window that a run leaves, which may have been spoiled.
 use crate::afresh;
 use crate::afresh::LONGEST;
-use crate::afresh::at;
 use crate::numbers::MOST;
 use crate::numbers::compared;
 use crate::numbers::number_of;
@@ -14,7 +13,9 @@ use crate::runs::span;
 use crate::spoiled::FAULTS;
 use crate::spoiled::applies;
 use crate::spoiled::spoil;
+use arithmetic::Symbol;
 use std::num::wrapping_add_usize;
+use testing::at;
 use testing::clip;
 use testing::is_outside;
 use testing::over;
@@ -31,7 +32,7 @@ struct Judged {
 }
 
 // One in three windows has no fault.
-fn handed(run: &[u32; LONGEST], many: usize, n: usize, x: usize) -> Judged {
+fn handed(run: &[Symbol], many: usize, n: usize, x: usize) -> Judged {
     let good = afresh::window(run, many, n);
     let fault = pick(x, 5, FAULTS + FAULTS / 2);
     if applies(good, fault) {
@@ -46,22 +47,15 @@ fn handed(run: &[u32; LONGEST], many: usize, n: usize, x: usize) -> Judged {
     }
 }
 
-// Every span up to twice the longest, then any, or the largest number there is.
-fn asked(case: usize) -> usize {
-    if case < 2 * Window::MAX_SPAN {
-        return case;
-    }
-    over(case % 2 == 0, MOST, seed(case))
-}
-
-// A refused opening hands back zeros.
+// Every span up to twice the longest, then any, or the largest number there is. A refused opening hands back zeros.
 pub fn opened(case: usize) -> usize {
-    let n = asked(case);
+    let any = over(case % 2 == 0, MOST, seed(case));
+    let n = over(case < 2 * Window::MAX_SPAN, case, any);
     let step = Window::open(n);
     let verdict = step.verdict;
     let window = step.window;
     let outside = is_outside(n, Window::MAX_SPAN);
-    let run = [0 as u32; LONGEST];
+    let run = [0 as Symbol; LONGEST];
     let want = afresh::window(&run, 0, over(outside, 0, n));
     compared(
         number_of(verdict),
@@ -71,7 +65,7 @@ pub fn opened(case: usize) -> usize {
 }
 
 // A refused window is handed back as it was.
-fn after(given: Judged, run: &[u32; LONGEST], many: usize, n: usize) -> Window {
+fn after(given: Judged, run: &[Symbol], many: usize, n: usize) -> Window {
     if given.number > 0 {
         return given.window;
     }
@@ -82,7 +76,7 @@ pub fn pushed(case: usize) -> usize {
     let x = seed(case);
     let n = span(x);
     let many = clip(length(x, n), LONGEST - 1);
-    let mut run = [0 as u32; LONGEST];
+    let mut run = [0 as Symbol; LONGEST];
     fill(&mut run, x, RIGHT);
     let given = handed(&run, many, n, x);
     let before = given.window;
@@ -93,44 +87,26 @@ pub fn pushed(case: usize) -> usize {
     compared(number_of(verdict), given.number, afresh::same(window, want))
 }
 
-pub fn sum(case: usize) -> usize {
+// Both figures of one window. With no total yet, the sum is given and the largest is 12; where a figure is refused, it is 0.
+pub fn asked(case: usize) -> usize {
     let x = seed(case);
     let n = span(x);
     let many = clip(length(x, n), LONGEST);
-    let mut run = [0 as u32; LONGEST];
-    fill(&mut run, x, RIGHT);
-    let given = handed(&run, many, n, x);
-    let window = given.window;
-    let answer = window.sum();
-    let verdict = answer.verdict;
-    let value = answer.value;
-    let want = afresh::sum(&run, many, n, 0, 0);
-    let same = if given.number > 0 {
-        value == 0
-    } else {
-        value == want
-    };
-    compared(number_of(verdict), given.number, same)
-}
-
-// With no total yet, 12.
-pub fn largest(case: usize) -> usize {
-    let x = seed(case);
-    let n = span(x);
-    let many = clip(length(x, n), LONGEST);
-    let mut run = [0 as u32; LONGEST];
+    let mut run = [0 as Symbol; LONGEST];
     fill(&mut run, x, RIGHT);
     let given = handed(&run, many, n, x);
     let number = over(given.number > 0, given.number, over(many == 0, 12, 0));
     let window = given.window;
-    let answer = window.largest();
-    let verdict = answer.verdict;
-    let value = answer.value;
-    let want = afresh::largest(&run, many, n);
-    let same = if number > 0 {
-        value == 0
-    } else {
-        value == want
-    };
-    compared(number_of(verdict), number, same)
+    let sum = window.sum();
+    let largest = window.largest();
+    let first = sum.verdict;
+    let second = largest.verdict;
+    let s = sum.value;
+    let l = largest.value;
+    let a = afresh::sum(&run, many, n, 0, 0);
+    let b = afresh::largest(&run, many, n);
+    let right = if given.number > 0 { s == 0 } else { s == a };
+    let same = if number > 0 { l == 0 } else { l == b };
+    let agreed = right && same && number_of(first) == given.number;
+    compared(number_of(second), number, agreed)
 }

@@ -20,8 +20,7 @@ fn outcome(kind: usize, case: usize) -> usize {
         1 => runs::played(case, runs::RIGHT),
         2 => runs::played(case, runs::FED),
         3 => calls::pushed(case),
-        4 => calls::sum(case),
-        5 => calls::largest(case),
+        4 => calls::asked(case),
         _ => runs::played(case, 1 + case % 2),
     }
 }
@@ -59,7 +58,6 @@ fn main() {
     report(b"runs:          ", 1, 50000, 70000);
     report(b"hours:         ", 2, 0, 96);
     report(b"totals:        ", 3, 100000, 140000);
-    report(b"sums:          ", 4, 150000, 190000);
-    report(b"largest:       ", 5, 200000, 240000);
-    report(b"mistaken runs: ", 6, 250000, 250200);
+    report(b"figures:       ", 4, 200000, 240000);
+    report(b"mistaken runs: ", 5, 250000, 250200);
 }

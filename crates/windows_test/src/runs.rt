@@ -1,7 +1,6 @@
 // Runs of totals, from an opening on: after each total the window and both figures are held to what the whole run gives.
 use crate::afresh;
 use crate::afresh::LONGEST;
-use crate::afresh::at;
 use crate::hours;
 use crate::numbers::DIFFER;
 use crate::numbers::HALF;
@@ -9,10 +8,13 @@ use crate::numbers::WORD;
 use crate::numbers::number_of;
 use crate::numbers::pick;
 use crate::numbers::total;
+use arithmetic::Symbol;
 use std::num::wrapping_add_usize;
+use testing::at;
 use testing::clip;
 use testing::over;
 use testing::product;
+use testing::put;
 use testing::seed;
 use testing::state;
 use windows::Window;
@@ -51,14 +53,14 @@ fn kept(x: usize, i: usize) -> usize {
     }
 }
 
-pub fn fill(run: &mut [u32; LONGEST], x: usize, how: usize) {
-    for i in 0..LONGEST {
-        run[i] = (over(how == FED, hours::load(i), kept(x, i)) % WORD) as u32;
+pub fn fill(run: &mut [Symbol], x: usize, how: usize) {
+    for i in 0..run.len() {
+        put(run, i, over(how == FED, hours::load(i), kept(x, i)));
     }
 }
 
 // Whether the window and its figures are those of the run.
-fn agrees(window: Window, run: &[u32; LONGEST], many: usize, n: usize) -> bool {
+fn agrees(window: Window, run: &[Symbol], many: usize, n: usize) -> bool {
     let sum = window.sum();
     let largest = window.largest();
     let verdict = sum.verdict;
@@ -74,7 +76,7 @@ fn agrees(window: Window, run: &[u32; LONGEST], many: usize, n: usize) -> bool {
 }
 
 // A mistake is one in the last digit of a total, or a span that is one longer; it shows in the window if not in the figures.
-fn given(run: &[u32; LONGEST], i: usize, how: usize) -> i32 {
+fn given(run: &[Symbol], i: usize, how: usize) -> i32 {
     let u = at(run, i);
     if how == FED {
         return hours::shown(u, i);
@@ -88,7 +90,7 @@ pub fn played(case: usize, how: usize) -> usize {
     let n = over(how == FED, case % Window::MAX_SPAN + 1, span(x));
     let many = over(how == RIGHT, length(x, n), LONGEST);
     let more = over(how == 2, 1, 0);
-    let mut run = [0 as u32; LONGEST];
+    let mut run = [0 as Symbol; LONGEST];
     fill(&mut run, x, how);
     let opening = Window::open(n);
     let verdict = opening.verdict;

@@ -1,8 +1,8 @@
 // Windows that no run leaves: one thing in them is not as it should be.
-use crate::afresh::LONGEST;
 use crate::afresh::sum;
 use crate::numbers::MOST;
 use crate::numbers::pick;
+use arithmetic::Symbol;
 use std::num::wrapping_add_usize;
 use std::num::wrapping_sub_usize;
 use windows::Window;
@@ -45,13 +45,7 @@ fn other(window: Window, place: usize) -> i32 {
 }
 
 // The window that this run leaves, with the fault.
-pub fn spoil(
-    mut window: Window,
-    run: &[u32; LONGEST],
-    many: usize,
-    fault: usize,
-    x: usize,
-) -> Window {
+pub fn spoil(mut window: Window, run: &[Symbol], many: usize, fault: usize, x: usize) -> Window {
     let held = window.held;
     let span = window.span;
     let more = sum(run, many, span, 1, 0);

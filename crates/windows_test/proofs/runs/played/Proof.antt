@@ -36,4 +36,7 @@ played-spec =
     (search needs)
     (search needs)
     (search needs)
+    (search needs)
+    (search needs)
+    (search needs)
     (search needs))
