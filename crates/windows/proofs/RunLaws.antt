@@ -11,7 +11,7 @@ use lib.Dec.{T, eqb}
 use lib.IntN.{ℤ, pos, negsuc, negℤ, _+ℤ_, _-ℤ_, natAbs, +ℤ-assoc, +ℤ-idl, +ℤ-idr}
 use lib.ListN.{length, take, drop, set, getD, replicate, drop-of-length-le, length-drop, length-append}
 use lib.Seq.{take-suc, drop-cons, drop-append-le, drop-drop, length-take-le, getD-append-add, getD-drop, set-at, append-snoc, take-nil}
-use lib.Signed.{mag, ltZ, _<ℤ_, natAbs-le}
+use lib.Signed.{mag, ltZ, natAbs-le}
 use borrow.Author.Tests.{eqb-true, eq-eqb, ne-eqb}
 use mir.Syntax.{w32, w64}
 use mir.Val.{SFits, toZ, ofZ}
