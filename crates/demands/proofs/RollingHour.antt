@@ -18,7 +18,7 @@ use Rattle.signed.specs.Numbers.{shownOf}
 use Rattle.signed.proofs.NumberLaws.{half-fits}
 use Rattle.windows.specs.declared.Window.{Window}
 use Rattle.windows.specs.Runs.{sumOf, lastOf, largestOf}
-use Rattle.windows.specs.Windows.{maxSpan, spanFits, IsTotal, isWindow}
+use Rattle.windows.specs.Windows.{maxSpan, spanFits, IsTotal, isWindow, windowCode}
 use Rattle.windows.proofs.RunLaws.{last-all}
 use Rattle.windows.proofs.WindowLaws.{span-iff, accepted-iff, refused-iff}
 use Rattle.windows.proofs.AlongRuns.{values-total, left-iff, left-once, left-code, left-largest, opens, opened-is, sum-range, none-sum, none-largest, none-iff}
@@ -91,4 +91,4 @@ pub refused-keeps : RefusedKeeps
 refused-keeps W = (refused-left W, refused-largest W)
 
 pub refused-opening : RefusedOpening
-refused-opening = along.refused-opening
+refused-opening n e = let is = along.refused-opening n e in (is, ap windowCode is)

@@ -87,13 +87,13 @@ EmptyExactly = (W : Window) → length (W .totals) ≡ maxSpan → (largestCode 
 abbrev pub OneWindow : Type 0
 OneWindow = (n n′ : ℕ) (run run′ : List ℤ) → (windowOf n run ≡ windowOf n′ run′) ↔ ((n ≡ n′) × (lastOf n run ≡ lastOf n′ run′))
 
--- "a refusal leaves all lent memory and every round state as it found them.": the window that is handed in is handed back. A refused figure is 0, and a
--- refused opening hands back nothing but zeros
+-- "a refusal leaves all lent memory and every round state as it found them.": the window that is handed in is handed back, and a refused figure is 0
 abbrev pub RefusedKeeps : Type 0
 RefusedKeeps =
     (W : Window)
     → (windowCode W ≡ code 17 → ((t : ℤ) → pushedWindow W t ≡ W) × (givenSum W ≡ pos 0))
     × ((largestCode W ≡ code 17) ⊎ (largestCode W ≡ code 12) → givenLargest W ≡ pos 0)
 
+-- a refused opening hands back nothing but zeros, which no call takes for a window
 abbrev pub RefusedOpening : Type 0
-RefusedOpening = (n : ℕ) → openCode n ≡ code 17 → openedWindow n ≡ windowOf 0 []
+RefusedOpening = (n : ℕ) → openCode n ≡ code 17 → (openedWindow n ≡ windowOf 0 []) × (windowCode (openedWindow n) ≡ code 17)
