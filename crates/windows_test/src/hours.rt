@@ -28,14 +28,26 @@ const NOT_GIVEN: Symbol = 4294967295;
 
 const UNSHOWN: i32 = -2147483648;
 
-// The total of quarter hour i, from 0, as it is kept: 20 (37 (i + 1) mod 97) - 900. Over 96 of them the remainder is each number from 1 to 96 once.
+// The total of quarter hour k, from 1, is STEP (FACTOR k mod PERIOD) - BELOW. Over 96 of them the remainder is each number from 1 to 96 once.
+const STEP: usize = 20;
+
+const FACTOR: usize = 37;
+
+const PERIOD: usize = 97;
+
+const BELOW: usize = 900;
+
+// The mask of quarter hour k is this k modulo q.
+const MASK: usize = 12345;
+
+// The total of quarter hour i, from 0, as it is kept.
 pub fn load(i: usize) -> usize {
-    HALF - 900 + product(20, product(37, wrapping_add_usize(i, 1)) % 97)
+    HALF - BELOW + product(STEP, product(FACTOR, wrapping_add_usize(i, 1)) % PERIOD)
 }
 
 // A total on its way: the first relay's sum has it, with a mask added that the second relay's sum takes off again.
 pub fn shown(kept: usize, i: usize) -> i32 {
-    let mask = product(12345, wrapping_add_usize(i, 1)) % PRIME;
+    let mask = product(MASK, wrapping_add_usize(i, 1)) % PRIME;
     let first = [narrow(residue(wrapping_add_usize(kept, OFF + mask), PRIME))];
     let second = [narrow((PRIME - mask) % PRIME)];
     let number = narrow(i);
