@@ -39,6 +39,8 @@ fn refusal(number: u16, first: u16, second: u16) -> Refusal {
         15 => Refusal::OutsideCap,
         16 => Refusal::BadCap,
         17 => Refusal::BadWindow,
+        20 => Refusal::PastLimit,
+        21 => Refusal::BadStock,
         _ => Refusal::JointLeaks { coalition: first },
     }
 }
