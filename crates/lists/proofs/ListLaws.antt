@@ -2,12 +2,13 @@
 use Prim.Native.Nat.{ℕ, zero, suc, _+_, _≤_, _<_, suc-le-suc}
 use mathlib.Core.Path.{_≡_, refl, sym, ap, ap₂, _∙_, subst}
 use mathlib.Core.Bool.{Bool, true, false, cond}
-use mathlib.Core.Logic.{⊎-elim}
+use mathlib.Core.Logic.{_≢_, ⊎-elim}
 use mathlib.Core.List.{List, [], _∷_, _++_, map, map-append, head-eq-of-cons-eq, tail-eq-of-cons-eq}
 use native.Mathlib.Nat.{zero-add, suc-add, mul-one, suc-ne-zero, suc-inj, not-suc-le-zero, le-of-suc-le-suc, lt-suc-self, zero-lt-suc, eq-or-lt-of-le}
+use native.Mathlib.Decide.{ℕ-discrete}
 use native.Mathlib.Omega.{arith}
-use lib.ListN.{length, getD, length-replicate}
-use lib.Seq.{ext-getD}
+use lib.ListN.{length, getD, set, length-set, length-replicate}
+use lib.Seq.{ext-getD, getD-set-same, getD-set-other}
 use lib.Dec.{T}
 use Rattle.lists.specs.Lists.{at, All, tab, joinTo, picked, zeros}
 use Rattle.lists.proofs.Members.{all-append, all-left, all-right}
@@ -46,6 +47,14 @@ tab-get n f l d e h =
 
 pub tab-at : (n : ℕ) (f : ℕ → ℕ) (l : List ℕ) → length l ≡ n → ((k : ℕ) → k < n → f k ≡ at l k) → tab n f ≡ l
 tab-at n f l e h = tab-get n f l 0 e h
+
+-- a store at p changes the entry at p alone
+pub set-tab : (n : ℕ) (l : List ℕ) (g : ℕ → ℕ) (p x : ℕ) → length l ≡ n → p < n → x ≡ g p → ((k : ℕ) → k < n → k ≢ p → at l k ≡ g k) → set l p x ≡ tab n g
+set-tab n l g p x len h e same = sym (tab-at n g (set l p x) (length-set l p x ∙ len) (λ k s. go k s (ℕ-discrete k p)))
+  where
+    go : (k : ℕ) → k < n → Dec (k ≡ p) → g k ≡ at (set l p x) k
+    go k s (yes d) = sym (ap (at (set l p x)) d ∙ getD-set-same l p x 0 (omega arith) ∙ e ∙ ap g (sym d))
+    go k s (no d) = sym (getD-set-other l p k x 0 d ∙ same k s d)
 
 -- a function of each entry
 pub map-tab : {A B : Type 0} (h : A → B) (n : ℕ) (f : ℕ → A) → map h (tab n f) ≡ tab n (λ k. h (f k))

@@ -4,6 +4,7 @@ use mathlib.Core.Path.{_≡_, refl, sym, ap, ap₂, _∙_}
 use mathlib.Core.Logic.{_≢_, ⊎-elim}
 use native.Mathlib.Nat.{add-zero, add-suc, add-assoc, add-comm, mod-eq-of-lt, add-mod-left, zero-mul, suc-mul}
 use native.Mathlib.Nat.{lt-suc-self, eq-or-lt-of-le, le-of-suc-le-suc, not-suc-le-zero}
+use native.Mathlib.Numerals.{add-one}
 use native.Mathlib.Omega.{arith}
 use Rattle.lists.specs.Sums.{sumTo}
 
@@ -18,6 +19,17 @@ pub sum-zero : (n : ℕ) (f : ℕ → ℕ) → ((k : ℕ) → k < n → f k ≡ 
 unfolding sumTo
 sum-zero zero f h = refl
 sum-zero (suc n) f h = ap₂ _+_ (sum-zero n f (λ k l. h k (omega arith))) (h n (lt-suc-self n))
+
+-- one summand more
+pub sum-next : (n : ℕ) (f : ℕ → ℕ) → sumTo (n + 1) f ≡ sumTo n f + f n
+unfolding sumTo
+sum-next n f = rw add-one
+
+-- smaller summands have a smaller sum
+pub sum-smaller : (n : ℕ) (f g : ℕ → ℕ) → ((k : ℕ) → k < n → f k ≤ g k) → sumTo n f ≤ sumTo n g
+unfolding sumTo
+sum-smaller zero f g h = omega arith
+sum-smaller (suc n) f g h = omega (arith, sum-smaller n f g (λ k l. h k (omega arith)), h n (lt-suc-self n))
 
 -- a summand is at most the sum
 pub sum-le : (n : ℕ) (f : ℕ → ℕ) (k : ℕ) → k < n → f k ≤ sumTo n f
@@ -34,6 +46,10 @@ pub sum-split : (a b : ℕ) (f : ℕ → ℕ) → sumTo (a + b) f ≡ sumTo a f 
 unfolding sumTo
 sum-split a zero f = simp add-zero
 sum-split a (suc b) f = rw add-suc (ap (λ (s : ℕ). s + f (a + b)) (sum-split a b f) ∙ add-assoc (sumTo a f) (sumTo b (λ k. f (a + k))) (f (a + b)))
+
+-- the first summands are at most the sum
+pub sum-some : (m n : ℕ) (f : ℕ → ℕ) → m ≤ n → sumTo m f ≤ sumTo n f
+sum-some m n f h = omega (arith, sum-split m (n - m) f, ap (λ (k : ℕ). sumTo k f) {x = m + (n - m)} {y = n} (omega arith))
 
 -- a sum over all symbols, each moved by c modulo q, is the sum over all symbols
 pub sum-shift : (q c : ℕ) (f : ℕ → ℕ) → c < q → sumTo q (λ x. f ((x + c) % q)) ≡ sumTo q f
@@ -73,12 +89,16 @@ unfolding sumTo
 sum-front zero f = omega arith
 sum-front (suc n) f = omega (arith, sum-front n f)
 
+-- two sums whose summands are equal but for one
+pub sum-but-one : (n : ℕ) (f g : ℕ → ℕ) (k : ℕ) → k < n → ((i : ℕ) → i < n → i ≢ k → f i ≡ g i) → sumTo n f + g k ≡ sumTo n g + f k
+unfolding sumTo
+sum-but-one zero f g k h same = absurd (not-suc-le-zero h)
+sum-but-one (suc n) f g k h same =
+    ⊎-elim
+    (λ c. omega (arith, sum-cong n f g (λ i l. same i (omega arith) (omega arith)), ap f c, ap g c))
+    (λ c. omega (arith, sum-but-one n f g k c (λ i l. same i (omega arith)), same n (lt-suc-self n) (omega arith)))
+    (eq-or-lt-of-le (le-of-suc-le-suc h))
+
 -- a 1 at k, and 0 elsewhere
 pub sum-one : (n : ℕ) (f : ℕ → ℕ) (k : ℕ) → k < n → f k ≡ 1 → ((i : ℕ) → i < n → i ≢ k → f i ≡ 0) → sumTo n f ≡ 1
-unfolding sumTo
-sum-one zero f k h e z = absurd (not-suc-le-zero h)
-sum-one (suc n) f k h e z =
-    ⊎-elim
-    (λ c. ap₂ _+_ (sum-zero n f (λ i l. z i (omega arith) (omega arith))) (ap f (sym c) ∙ e))
-    (λ c. ap₂ _+_ (sum-one n f k c e (λ i l. z i (omega arith))) (z n (lt-suc-self n) (omega arith)))
-    (eq-or-lt-of-le (le-of-suc-le-suc h))
+sum-one n f k h e z = omega (arith, sum-but-one n f (λ _. 0) k h z, sum-zero n (λ _. 0) (λ i l. refl))

@@ -13,7 +13,7 @@ use borrow.Author.Tests.{eq-eqb}
 use Rattle.lists.specs.Lists.{at}
 use Rattle.lists.specs.Search.{allTo}
 use Rattle.residues.specs.Primes.{Prime}
-use Rattle.lists.proofs.Searches.{T→true, true→T, T-and, all-at}
+use Rattle.lists.proofs.Searches.{T→true, true→T, T-and, all-at, one-known}
 use Rattle.residues.proofs.PrimeLaws.{undivided-prime}
 use Rattle.plans.specs.declared.Plan.{Plan}
 use Rattle.plans.specs.Plans.{usersOf, countsFit, lengthFits, inBounds, LargestPrime}
@@ -66,9 +66,7 @@ few-numbers {P} b = mul-le-mul {n₁ = usersOf P} {m₁ = P .rate} {n₂ = 16} {
 
 -- and what the length of a block satisfies
 pub length-known : (L : ℕ) → lengthFits L ≡ true → (1 ≤ L) × (L ≤ 64)
-length-known L e =
-    let (f, s) = T-and (leb 1 L) (leb L 64) (true→T (lengthFits L) e) in
-    (leb→le 1 L f, leb→le L 64 s)
+length-known L e = one-known 64 L e
 
 -- ---- the largest prime of a width
 

@@ -6,6 +6,7 @@ use lib.Dec.{leb, eqb}
 use lib.ListN.{length}
 use Rattle.refusals.specs.declared.Code.{Code}
 use Rattle.refusals.specs.Codes.{code, accepted, codeOf, firstOf, ifAccepted}
+use Rattle.lists.specs.Search.{oneOf}
 use Rattle.residues.specs.Primes.{Prime, isPrime, allBelow}
 use Rattle.plans.specs.declared.Plan.{Plan}
 use Rattle.plans.specs.declared.Planned.{Planned}
@@ -47,7 +48,7 @@ inBounds P = countsFit (P .clusters) (P .size) (P .limit) && leb 1 (P .rate) && 
 
 -- a block's length
 abbrev pub lengthFits : ℕ → Bool
-lengthFits L = leb 1 L && leb L maxLength
+lengthFits L = oneOf maxLength L
 
 -- of "a constructor without self", to which document 01 gives no order: 1, then 2, as in every order there that has both
 abbrev pub planChecks : Plan → List (Bool × Code)

@@ -1,6 +1,7 @@
 // The bounds of a plan and of a block, and the plan's constructor.
 ghost use mathlib.Core.Path.{_≡_};
 ghost use Prim.Native.Nat.{_^_};
+ghost use Rattle.lists.specs.Search.{oneOf};
 ghost use Rattle.plans.specs.Plans.{plan, planCode, planMade, plannedCode, plannedPlan, countsFit, lengthFits, inBounds};
 ghost use Rattle.plans.specs.Plans.{maxClusters, maxSize, maxUsers, maxRate, maxLength, LargestPrime};
 use crate::Plan;
@@ -32,14 +33,21 @@ pub fn counts_fit(clusters: usize, size: usize, limit: usize) -> bool
     limit <= users
 }
 
+// Whether x is one of 1 to n.
+pub fn one_of(n: usize, x: usize) -> bool
+    ensures { λ r. ⌜ r ≡ oneOf n x ⌝ }
+{
+    if x < 1 {
+        return false;
+    }
+    x <= n
+}
+
 // Whether a block may have this length.
 pub fn length_fits(length: usize) -> bool
     ensures { λ r. ⌜ r ≡ lengthFits length ⌝ }
 {
-    if length < 1 {
-        return false;
-    }
-    length <= Plan::MAX_LENGTH
+    one_of(Plan::MAX_LENGTH, length)
 }
 
 impl Plan {

@@ -5,6 +5,7 @@ mod tables;
 use arithmetic::Symbol;
 pub use bounds::counts_fit;
 pub use bounds::length_fits;
+pub use bounds::one_of;
 use refusals::Refusal;
 pub use tables::check_plan;
 

@@ -7,7 +7,7 @@ use mathlib.Core.List.{List, [], _∷_, _++_}
 use native.Mathlib.Nat.{add-zero, mod-lt, mod-eq-of-lt}
 use native.Mathlib.Decide.{ℕ-discrete, decLt}
 use native.Mathlib.Omega.{arith}
-use lib.Dec.{leb, ltb, eqb, leb→le}
+use lib.Dec.{ltb, eqb}
 use lib.ListN.{length, take, drop, length-drop}
 use lib.Seq.{getD-take, getD-drop, length-take-le}
 use borrow.Author.Tests.{not-false, eq-eqb, ne-eqb, lt-ltb, le-ltb}
@@ -15,7 +15,7 @@ use Rattle.refusals.specs.declared.Code.{Code}
 use Rattle.refusals.specs.Codes.{code, accepted, firstOf, ifAccepted}
 use Rattle.refusals.proofs.CodeLaws.{none-holds}
 use Rattle.residues.specs.Primes.{allBelow}
-use Rattle.lists.proofs.Searches.{T→true, true→T, T-and}
+use Rattle.lists.proofs.Searches.{T→true, true→T, one-known}
 use Rattle.residues.proofs.Congruence.{c-refl, c-add, of-rem, to-mod}
 use Rattle.residues.proofs.PrimeLaws.{prime-pos, below-at, at-below}
 use Rattle.lists.specs.Lists.{at, tab}
@@ -116,8 +116,7 @@ module _ (senders : ℕ) (R : Round) where
             → rest (oneOf senders (f .sender)) (hasReported (after R ledger) [] (f .sender))
             ≡ rest (oneOf senders (f .sender)) (hasReported R ledger (f .sender))
         go true o =
-            let (low, high) = T-and (leb 1 (f .sender)) (leb (f .sender) senders) (true→T (oneOf senders (f .sender)) o) in
-            ap (rest (oneOf senders (f .sender))) (heard-same (f .sender) (leb→le 1 (f .sender) low))
+            ap (rest (oneOf senders (f .sender))) (heard-same (f .sender) (one-known senders (f .sender) o .0))
         go false o =
             ap (λ (t : Bool). rest t (hasReported (after R ledger) [] (f .sender))) o
             ∙ sym (ap (λ (t : Bool). rest t (hasReported R ledger (f .sender))) o)

@@ -6,7 +6,7 @@ use mathlib.Core.Bool.{Bool, true, false, cond, not, _&&_, _||_}
 use mathlib.Core.List.{List, [], _∷_, _++_}
 use native.Mathlib.Decide.{ℕ-discrete}
 use native.Mathlib.Omega.{arith}
-use lib.Dec.{leb, ltb, eqb, leb→le}
+use lib.Dec.{ltb, eqb}
 use lib.ListN.{length, take}
 use lib.Pow.{pow-pos}
 use borrow.Author.Tests.{not-false, eq-eqb, ne-eqb, eqb-true, lt-ltb}
@@ -15,7 +15,7 @@ use Rattle.refusals.specs.Codes.{code, accepted, isAccepted, firstOf, ifAccepte
 use Rattle.refusals.proofs.CodeLaws.{none-holds}
 use Rattle.refusals.proofs.Orders.{rest-decides, first-decides, number-accepts}
 use Rattle.residues.specs.Primes.{allBelow}
-use Rattle.lists.proofs.Searches.{T→true, true→T, T-and}
+use Rattle.lists.proofs.Searches.{T→true, one-known}
 use Rattle.lists.proofs.ListLaws.{length-zeros}
 use Rattle.residues.proofs.PrimeLaws.{prime-pos}
 use Rattle.rounds.specs.declared.Held.{Held}
@@ -78,11 +78,10 @@ pub record Noted (R : RelayRound) (l : Log) (f : Frame) : Type 0 where
 pub noted-known : (R : RelayRound) (l : Log) (f : Frame) → accepted ≡ logCode R l (heard f) → Noted R l f
 noted-known R l f e =
     let w = none-holds (relayChecks R ++ logChecks R l (heard f)) tt e .1 .1 .1 .1 .1 .1 in
-    let (low, high) = T-and (leb 1 (f .sender)) (leb (f .sender) (R .round .size))
-    (true→T (oneOf (R .round .size) (f .sender)) (not-false (oneOf (R .round .size) (f .sender)) (w .0))) in
+    let (low, high) = one-known (R .round .size) (f .sender) (not-false (oneOf (R .round .size) (f .sender)) (w .0)) in
     record {
-      sender-some = leb→le 1 (f .sender) low;
-      sender-few = leb→le (f .sender) (R .round .size) high;
+      sender-some = low;
+      sender-few = high;
       timely = not-false (eqb (f .number) (l .number) || isNext (l .number) (f .number)) (w .1 .0);
       long = eqb-true (length (f .block)) (R .round .length) (not-false (eqb (length (f .block)) (R .round .length)) (w .1 .1 .0));
       below = not-false (allBelow (R .round .q) (f .block)) (w .1 .1 .1 .0);

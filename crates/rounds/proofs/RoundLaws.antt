@@ -1,12 +1,11 @@
 -- A round from its opening: once everyone is counted, its sums are the sums of everyone's block, in whatever order the frames came, however often, and with
 -- whatever bad, late or forged frames among them that were not counted.
-use Prim.Native.Nat.{ℕ, zero, suc, _+_, _-_, _%_, _^_, _≤_, _<_}
+use Prim.Native.Nat.{ℕ, suc, _+_, _-_, _%_, _^_, _≤_, _<_}
 use mathlib.Core.Path.{_≡_, refl, sym, ap, ap₂, _∙_, subst}
 use mathlib.Core.Bool.{Bool, true, false, cond, not, _||_}
 use mathlib.Core.Logic.{_≢_}
 use mathlib.Core.List.{List, [], _∷_, _++_}
-use native.Mathlib.Nat.{zero-add, lt-suc-self, not-suc-le-zero}
-use native.Mathlib.Decide.{ℕ-discrete}
+use native.Mathlib.Nat.{zero-add}
 use native.Mathlib.Omega.{arith}
 use lib.Dec.{ltb, eqb}
 use lib.ListN.{length, take}
@@ -20,7 +19,7 @@ use Rattle.lists.proofs.Searches.{T→true, true→T, all-at}
 use Rattle.residues.proofs.PrimeLaws.{prime-pos}
 use Rattle.lists.specs.Lists.{at, All, zeros, tab}
 use Rattle.lists.specs.Sums.{sumTo}
-use Rattle.lists.proofs.Sums.{sum-cong, sum-zero}
+use Rattle.lists.proofs.Sums.{sum-cong, sum-zero, sum-but-one}
 use Rattle.lists.proofs.ListLaws.{at-tab, tab-at, tab-cong, length-tab, el-zeros, length-zeros}
 use Rattle.rounds.specs.declared.Round.{Round}
 use Rattle.rounds.specs.Ledger.{Frame, named, countedAt, everyone, Carries, Heard}
@@ -39,25 +38,11 @@ use Rattle.plans.specs.Plans.{maxLength}
 -- one more is named
 sum-more : (n : ℕ) (b c : ℕ → Bool) (g : ℕ → ℕ) (i : ℕ) → i < n → b i ≡ false → c i ≡ true → ((k : ℕ) → k < n → k ≢ i → c k ≡ b k)
     → sumTo n (λ v. cond (c v) (g v) 0) ≡ sumTo n (λ v. cond (b v) (g v) 0) + g i
-unfolding sumTo
-sum-more zero b c g i h out is others = absurd (not-suc-le-zero h)
-sum-more (suc n) b c g i h out is others = go (ℕ-discrete i n) (λ l. sum-more n b c g i l out is (λ k m d. others k (omega arith) d))
-  where
-    top : i ≢ n → cond (c n) (g n) 0 ≡ cond (b n) (g n) 0
-    top ne = ap (λ (t : Bool). cond t (g n) 0) (others n (lt-suc-self n) (λ e. ne (sym e)))
-
-    go : Dec (i ≡ n) → (i < n → sumTo n (λ v. cond (c v) (g v) 0) ≡ sumTo n (λ v. cond (b v) (g v) 0) + g i)
-        → sumTo n (λ v. cond (c v) (g v) 0) + cond (c n) (g n) 0 ≡ sumTo n (λ v. cond (b v) (g v) 0) + cond (b n) (g n) 0 + g i
-    go (yes e) ih =
-        let low : sumTo n (λ v. cond (c v) (g v) 0) ≡ sumTo n (λ v. cond (b v) (g v) 0) =
-        sum-cong n (λ v. cond (c v) (g v) 0) (λ v. cond (b v) (g v) 0)
-        (λ k l. ap (λ (t : Bool). cond t (g k) 0) (others k (omega arith) (λ d. absurd (omega arith)))) in
-        let new : cond (c n) (g n) 0 ≡ g i = ap (λ (t : Bool). cond t (g n) 0) (ap c (sym e) ∙ is) ∙ ap g (sym e) in
-        let old : cond (b n) (g n) 0 ≡ 0 = ap (λ (t : Bool). cond t (g n) 0) (ap b (sym e) ∙ out) in
-        omega arith
-    go (no ne) ih =
-        let t : cond (c n) (g n) 0 ≡ cond (b n) (g n) 0 = top ne in
-        omega (arith, ih (omega arith))
+sum-more n b c g i h out is others =
+    let of : (ℕ → Bool) → ℕ → ℕ = λ s v. cond (s v) (g v) 0 in
+    let new : of c i ≡ g i = ap (λ (t : Bool). cond t (g i) 0) is in
+    let old : of b i ≡ 0 = ap (λ (t : Bool). cond t (g i) 0) out in
+    omega (arith, sum-but-one n (of c) (of b) i h (λ k l d. ap (λ (t : Bool). cond t (g k) 0) (others k l d)), new, old)
 
 all-front : {A : Type 0} (P : A → Type 0) (l : List A) (x : A) → All P (l ++ (x ∷ [])) → All P l × P x
 all-front P [] x a = (tt, a .0)

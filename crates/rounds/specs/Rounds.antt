@@ -5,11 +5,12 @@
 use Prim.Native.Nat.{ℕ, suc, _+_, _-_, _%_, _^_}
 use mathlib.Core.Bool.{Bool, true, cond, not, _&&_, _||_}
 use mathlib.Core.List.{List, [], _∷_, _++_}
-use lib.Dec.{leb, ltb, eqb}
+use lib.Dec.{ltb, eqb}
 use lib.ListN.{length, take, drop}
 use Rattle.refusals.specs.declared.Code.{Code}
 use Rattle.refusals.specs.Codes.{code, firstOf, ifAccepted}
 use Rattle.lists.specs.Search.{allTo}
+pub use Rattle.lists.specs.Search.{oneOf}
 use Rattle.lists.specs.Bits.{hasBit}
 use Rattle.residues.specs.Primes.{isPrime, allBelow}
 use Rattle.lists.specs.Lists.{at, zeros, tab}
@@ -17,10 +18,6 @@ use Rattle.plans.specs.Plans.{countsFit, lengthFits, maxLength}
 use Rattle.rounds.specs.declared.Round.{Round}
 use Rattle.rounds.specs.declared.ServerRound.{ServerRound}
 use Rattle.rounds.specs.Ledger.{Frame, named, bitsOf, countedAt}
-
--- is this number one of 1 to n?
-abbrev pub oneOf : ℕ → ℕ → Bool
-oneOf n x = leb 1 x && leb x n
 
 -- ---- opening: "1, 2, 9, 8"; `known`: its cluster is one of the plan's, of a relay; a server has none
 

@@ -1,13 +1,11 @@
--- One turn more of a loop that counts, tests or writes, in terms of what the turns before it did.
-use Prim.Native.Nat.{ℕ, zero, suc, _+_, _<_}
+-- One turn more of a loop that counts or writes, in terms of what the turns before it did.
+use Prim.Native.Nat.{ℕ, zero, suc, _+_}
 use mathlib.Core.Path.{_≡_, refl}
 use mathlib.Core.Bool.{Bool, true, false}
 use mathlib.Core.List.{List}
 use native.Mathlib.Numerals.{add-one}
 use native.Mathlib.Omega.{arith}
 use lib.ListN.{length, length-set}
-use Rattle.lists.specs.Search.{allTo}
-use Rattle.lists.proofs.Searches.{not-T→false, false→not-T, all-at}
 use Rattle.testing.specs.Numbers.{mulAddOf, howMany}
 use Rattle.testing.specs.Slices.{at, replaced, overwritten, columnOf}
 
@@ -19,14 +17,6 @@ module _ (f : ℕ → Bool) (i : ℕ) where
   pub passed-over : f i ≡ false → howMany (i + 1) f ≡ howMany i f
   unfolding howMany
   passed-over e = rw (add-one, e) (omega arith)
-
-  pub all-next : allTo i f ≡ true → f i ≡ true → allTo (i + 1) f ≡ true
-  unfolding allTo
-  all-next h e = rw (add-one, h, e)
-
-  -- one that fails decides the whole search
-  pub fails : (n : ℕ) → i < n → f i ≡ false → allTo n f ≡ false
-  fails n h e = not-T→false (allTo n f) (λ t. false→not-T (f i) e (all-at n f t i h))
 
 module _ (f : ℕ → ℕ) (l : List ℕ) where
   pub written-next : (i : ℕ) → overwritten (i + 1) f l ≡ replaced (overwritten i f l) i (f i)

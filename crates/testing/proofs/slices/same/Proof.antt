@@ -8,8 +8,8 @@ use native.Mathlib.Omega.{arith}
 use lib.Dec.{eqb}
 use lib.ListN.{length}
 use Rattle.lists.specs.Search.{allTo}
+use Rattle.lists.proofs.Searches.{all-next, all-fails}
 use Rattle.testing.specs.Slices.{at, sameFront}
-use Rattle.testing.proofs.Loops.{all-next, fails}
 use Rattle.testing.proofs.slices.same.Statement.{statement}
 use Rattle.testing.proofs.slices.same.Tie as tie
 
@@ -28,7 +28,7 @@ unfolding sameFront
 returns c =
     let a = c .before .before .before .before .before .before .before .args in
     let f : ℕ → Bool = λ k. eqb (at (a .s .now) k) (at (a .t .now) k) in
-    sym (fails f (c .before .before .before .before .loop .i) (length (a .s .now)) (c .before .before .before .loop-test .taken)
+    sym (all-fails f (c .before .before .before .before .loop .i) (length (a .s .now)) (c .before .before .before .loop-test .taken)
     (ne-eqb _ _ (λ z. c .if1 .taken (c .before .before .at .ensures ∙ z ∙ sym (c .before .at2 .ensures)))))
 
 loop-again : tie.Need-loop-again Inv-loop μ-loop

@@ -2,11 +2,11 @@
 use mathlib.Core.Path.{_≡_, refl, sym, ap, ap₂, _∙_}
 use Prim.Native.Nat.{ℕ, _+_, _-_, _*_, _/_, _^_, _≤_}
 use native.Mathlib.Nat.{mul-le-mul}
-use native.Mathlib.Numerals.{add-one}
 use native.Mathlib.Omega.{arith}
 use lib.Pow.{pow-mono}
 use Rattle.lists.specs.Sums.{sumTo, binomial}
 use Rattle.lists.proofs.Binomials.{binomial-next, binomial-few, sets-few}
+use Rattle.lists.proofs.Sums.{sum-next}
 use Rattle.vetting.proofs.length.sets_up_to.Statement.{statement}
 use Rattle.vetting.proofs.length.sets_up_to.Tie as tie
 
@@ -15,11 +15,6 @@ Inv-loop n limit sets₀ sum₀ k₀ sets sum k = (k ≤ limit) × (sets ≡ bin
 
 abbrev μ-loop : tie.MeasureT-loop
 μ-loop n limit sets₀ sum₀ k₀ sets sum k = limit - k
-
--- one size more
-sum-next : (n k : ℕ) → sumTo (k + 1) (binomial n) + binomial n (k + 1) ≡ sumTo (k + 1 + 1) (binomial n)
-unfolding sumTo
-sum-next n k = ap (λ (m : ℕ). sumTo m (binomial n)) (sym (add-one (k + 1)))
 
 loop-holds : tie.Need-loop-holds Inv-loop μ-loop
 unfolding sumTo binomial
@@ -47,7 +42,7 @@ next c =
 sum-is : (c : tie.In-loop Inv-loop μ-loop)
     → (let s = c .before .loop in let n : ℕ = c .before .before .args .n in
     s .sum + s .sets * (n - s .k) / (s .k + 1) ≡ sumTo (s .k + 1 + 1) (binomial n))
-sum-is c = let s = c .before .loop in ap₂ _+_ (s .inv .2) (next c) ∙ sum-next (c .before .before .args .n) (s .k)
+sum-is c = let s = c .before .loop in ap₂ _+_ (s .inv .2) (next c) ∙ sym (sum-next (s .k + 1) (binomial (c .before .before .args .n)))
 
 add-sum : tie.Need-add-sum Inv-loop μ-loop
 add-sum c = let s = c .before .loop in omega (arith, sum-is c, sets-few (c .before .before .args .n) (s .k + 1), few c)
