@@ -62,15 +62,15 @@ impl Stock {
         ensures stock { λ r. ⌜ r .stock ≡ openStock pools (now (reserves .entry)) (now (limits .entry)) (now (stream .entry)) ⌝ }
         ensures most { λ _. do ⌜ (← ⟦Stock::MAX_POOLS⟧ .entry) ≡ maxPools ⌝ }
     {
-        let answer = Stock::check_opening(pools, reserves, limits, stream);
-        if !answer.is_accepted() {
+        let opening = Stock::check_opening(pools, reserves, limits, stream);
+        if !opening.is_accepted() {
             return StockStep {
-                answer,
+                answer: opening,
                 stock: Stock::fresh(0, &[], &[]),
             };
         }
         StockStep {
-            answer,
+            answer: opening,
             stock: Stock::fresh(pools, reserves, limits),
         }
     }
@@ -116,9 +116,9 @@ impl Stock {
     fn check_draw(self, stream: &[Symbol], pool: usize, length: usize, out: &[Symbol]) -> Verdict
         ensures { λ r. ⌜ verdictCode r ≡ stockCode (now (stream .entry)) self (drawOf pool length (now (out .entry))) ⌝ }
     {
-        let verdict = self.check_state(stream.len());
-        if !verdict.is_accepted() {
-            return verdict;
+        let state = self.check_state(stream.len());
+        if !state.is_accepted() {
+            return state;
         }
         self.check_asked(stream.len(), pool, length, out.len())
     }
