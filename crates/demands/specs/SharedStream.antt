@@ -1,5 +1,6 @@
--- One key stream for several pools (document 02, Q-10). The promises of `Stock::open` and `draw` (stocks) are `openCode`, `openStock`, `stockCode`, `stockAfter`
--- and `outAfter`; `runOf` is a list of draws, each on the stock that the one before it handed back. A sure share is a reserve there, and the tape the stream.
+-- One key stream for several pools (document 02, Q-10). The promises of `Stock::open` and `draw` (stocks) are `openCode`, `openStock`, `stockCode`,
+-- `stockAfter` and `outAfter`; `runOf` is a list of draws, each on the stock that the one before it handed back. A sure share is a reserve there, and the tape
+-- the stream.
 use Prim.Native.Nat.{ℕ, _+_, _-_, _≤_, _<_}
 use mathlib.Core.Path.{_≡_}
 use mathlib.Core.Logic.{_≢_, _↔_}
@@ -50,8 +51,8 @@ GivenOnce =
     × ((k : ℕ) → k < length places → at symbols k ≡ at stream (at places k))
     × ((i j : ℕ) → i < length places → j < length places → at places i ≡ at places j → i ≡ j))
 
--- "21 when a share exceeds its limit, the shares exceed the tape, or a stock handed in is one that no draws on this tape could leave.": a stock for one to eight
--- pools (otherwise 1) is refused so exactly where no draws from an opening leave it. `fits` is the test
+-- "21 when a share exceeds its limit, the shares exceed the tape, or a stock handed in is one that no draws on this tape could leave.": a stock for one to
+-- eight pools (otherwise 1) is refused so exactly where no draws from an opening leave it. `fits` is the test
 module _ (stream : List ℕ) (S : Stock) (eight : Eight S) (counted : oneOf maxPools (S .pools) ≡ true) where
   abbrev pub LeftExactly : Type 0
   LeftExactly = (fits (length stream) S ≡ true) ↔ Left stream S
