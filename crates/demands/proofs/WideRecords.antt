@@ -20,7 +20,7 @@ use Rattle.plans.specs.Plans.{usersOf, inBounds}
 use Rattle.records.specs.Records.{widthOf, markOf, sizeWith, widthIn, recordWith, recordOf, distance, start, badTrailer, planRead, tableRead, readCode}
 use Rattle.records.proofs.RecordChecks.{readable, writable}
 use Rattle.records.proofs.RecordLaws.{length-record, record-bytes, read-write}
-use Rattle.records.proofs.Bytes.{number-small}
+use Rattle.numerals.proofs.Bytes.{number-small}
 use Rattle.records.proofs.Trailers.{Trailer, trailer-of}
 use Rattle.records.proofs.Widths.{width-old, width-wide, width-few, width-holds, old-small, wide-large, told-old, told-wide}
 use Rattle.demands.specs.WideRecords.{WideRecord, OldRecord, DistanceIsLength, RecordIsBytes, ReadIsRecord, NearTrailer, SmallInWide}

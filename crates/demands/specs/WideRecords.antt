@@ -11,7 +11,7 @@ use Rattle.residues.specs.Primes.{isPrime}
 use Rattle.lists.specs.Lists.{at}
 use Rattle.plans.specs.declared.Plan.{Plan}
 use Rattle.plans.specs.Plans.{usersOf, inBounds}
-use Rattle.records.specs.Bytes.{bytesOf, bytesOfAll}
+use Rattle.numerals.specs.Bytes.{bytesOf, bytesOfAll}
 use Rattle.records.specs.Records.{recordOf, start, badTrailer, distance, planRead, tableRead, readCode, writeCode}
 
 module _ (P : Plan) (K : List ℕ) where

@@ -14,7 +14,7 @@ use Rattle.residues.specs.Primes.{isPrime, allBelow}
 use Rattle.lists.proofs.Searches.{T→true, true→T, T-and}
 use Rattle.plans.specs.declared.Plan.{Plan}
 use Rattle.plans.specs.Plans.{usersOf, inBounds}
-use Rattle.records.specs.Bytes.{numbersAt}
+use Rattle.numerals.specs.Bytes.{numbersAt}
 use Rattle.records.specs.Records.{widthOf, sizeWith, widthIn, recordSize, distance, start, badTrailer, planRead, tableRead, readChecks, readCode}
 use Rattle.records.specs.Records.{writeChecks, writeCode}
 use Rattle.records.proofs.Trailers.{trailer-of}

@@ -14,7 +14,7 @@ use Rattle.lists.proofs.Searches.{true→T, all-at}
 use Rattle.residues.specs.Primes.{isPrime, allBelow}
 use Rattle.residues.proofs.PrimeLaws.{prime-true, undivided-prime}
 use Rattle.plans.specs.Plans.{plan}
-use Rattle.records.specs.Bytes.{bytesOf, bytesOfAll, numberAt, numbersAt}
+use Rattle.numerals.specs.Bytes.{bytesOf, bytesOfAll, numberAt, numbersAt}
 use Rattle.records.specs.Records.{recordWith, recordOf, planRead, tableRead, readCode}
 
 lent : List ℕ

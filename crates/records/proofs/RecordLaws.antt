@@ -14,11 +14,11 @@ use Rattle.residues.specs.Primes.{isPrime, allBelow}
 use Rattle.lists.specs.Lists.{at}
 use Rattle.plans.specs.declared.Plan.{Plan}
 use Rattle.plans.specs.Plans.{usersOf, inBounds}
-use Rattle.records.specs.Bytes.{bytesOf, bytesOfAll, numberAt, numbersAt}
+use Rattle.numerals.specs.Bytes.{bytesOf, bytesOfAll, numberAt, numbersAt}
 use Rattle.records.specs.Records.{widthOf, markOf, sizeWith, widthIn, recordSize, recordWith, recordOf, distance, start, badTrailer, planRead, tableRead}
 use Rattle.records.specs.Records.{readCode, writeCode}
-use Rattle.records.proofs.Bytes.{AreBytes, length-bytes, length-all, number-of-bytes, numbers-of-bytes, drop-two, bytes-of-number, bytes-of-numbers}
-use Rattle.records.proofs.Bytes.{no-bytes, byte-more, bytes-append, number-bytes, numbers-bytes}
+use Rattle.numerals.proofs.Bytes.{AreBytes, length-bytes, length-all, number-of-bytes, numbers-of-bytes, drop-two, bytes-of-number, bytes-of-numbers}
+use Rattle.numerals.proofs.Bytes.{no-bytes, byte-more, bytes-append, number-bytes, numbers-bytes}
 use Rattle.records.proofs.PlanSizes.{bounded}
 use Rattle.records.proofs.Widths.{width-some, mark-byte, mark-tells}
 use Rattle.records.proofs.Trailers.{Trailer, trailer-of, trailer-good}

@@ -11,7 +11,7 @@ use Rattle.residues.specs.Primes.{isPrime, allBelow}
 use Rattle.lists.specs.Lists.{at}
 use Rattle.plans.specs.declared.Plan.{Plan}
 use Rattle.plans.specs.Plans.{usersOf, inBounds, noPlan, tableChecks}
-use Rattle.records.specs.Bytes.{bytesOf, bytesOfAll, numberAt, numbersAt}
+use Rattle.numerals.specs.Bytes.{bytesOf, bytesOfAll, numberAt, numbersAt}
 
 -- ---- the two kinds
 

@@ -2,17 +2,20 @@
 ghost use mathlib.Core.Path.{_≡_};
 ghost use mathlib.Core.Bool.{true, false, _&&_};
 ghost use mathlib.Core.List.{[], _∷_, _++_};
-ghost use Prim.Native.Nat.{ℕ, _+_, _-_, _*_, _^_, _≤_, _<_};
+ghost use Prim.Native.Nat.{_+_, _-_, _*_, _^_, _≤_, _<_};
 ghost use lib.Dec.{eqb};
 ghost use lib.ListN.{length};
 ghost use Rattle.refusals.specs.Codes.{accepted, verdictCode};
 ghost use Rattle.residues.specs.Primes.{isPrime, allBelow};
-ghost use Rattle.lists.specs.Lists.{at};
 ghost use Rattle.plans.specs.Plans.{usersOf, inBounds, plannedCode, plannedPlan};
-ghost use Rattle.records.specs.Bytes.{bytesOf, bytesOfAll, numberAt, numbersAt};
+ghost use Rattle.numerals.specs.Bytes.{bytesOf, numbersAt};
 ghost use Rattle.records.specs.Records.{widthOf, markOf, sizeWith, widthIn, recordOf, distance, start};
-ghost use Rattle.records.specs.Records.{badTrailer, planRead, readCode, planAfter, tableAfter, padded, writeCode, bytesAfter};
+ghost use Rattle.records.specs.Records.{badTrailer, planRead, readCode, planAfter, tableAfter, writeCode, bytesAfter};
 use arithmetic::Symbol;
+use numerals::number_at;
+use numerals::read_numbers;
+use numerals::write_number;
+use numerals::write_numbers;
 use plans::Plan;
 use plans::Planned;
 use plans::check_plan;
@@ -43,9 +46,6 @@ const NARROW_MARK: u8 = 0x50;
 
 const WIDE_MARK: u8 = 0x51;
 
-// What a byte is worth in terms of the byte before it.
-const BYTE: Symbol = 256;
-
 // The length of the table that is lent to the reader: the most symbols of a plan.
 pub const READ_TABLE: usize = 256;
 
@@ -65,20 +65,6 @@ fn mark_of(width: usize) -> u8
     } else {
         WIDE_MARK
     }
-}
-
-// The number of up to four bytes, low first.
-fn number_at(width: usize, bytes: &[u8], i: usize) -> Symbol
-    requires { ⌜ (width ≤ 4) × (i + width ≤ length (now bytes)) ⌝ }
-    ensures { λ r. ⌜ r ≡ numberAt width (now (bytes .entry)) i ⌝ }
-{
-    let mut n: Symbol = 0;
-    let mut k = width;
-    while k > 0 {
-        k -= 1;
-        n = n * BYTE + bytes[i + k] as Symbol;
-    }
-    n
 }
 
 // The width that the record's last byte says.
@@ -224,29 +210,6 @@ fn check_record(bytes: &[u8], table: &[Symbol]) -> Planned
     Planned::Made(plan)
 }
 
-// Number k of `count`, and 0 past them.
-fn symbol_at(width: usize, bytes: &[u8], from: usize, count: usize, k: usize) -> Symbol
-    requires { ⌜ (width ≤ 4) × (from + width * count ≤ length (now bytes)) ⌝ }
-    ensures { λ r. ⌜ r ≡ at (numbersAt width count (now (bytes .entry)) from) k ⌝ }
-{
-    if k < count {
-        return number_at(width, bytes, from + width * k);
-    }
-    0
-}
-
-// Fills a table with `count` numbers, and 0 past them.
-fn fill(width: usize, bytes: &[u8], from: usize, count: usize, table: &mut [Symbol])
-    requires { ⌜ (width ≤ 4) × (from + width * count ≤ length (now bytes)) × (count ≤ 256) × (length (now table) ≡ 256) ⌝ }
-    ensures { λ _. ⌜ now (table .exit) ≡ padded (numbersAt width count (now (bytes .entry)) from) ⌝ }
-{
-    let mut k = 0;
-    while k < table.len() {
-        table[k] = symbol_at(width, bytes, from, count, k);
-        k += 1;
-    }
-}
-
 // The plan of the record at the buffer's end, whose key table is put in the lent table.
 pub fn read_record(bytes: &[u8], table: &mut [Symbol]) -> Planned
     ensures code { λ r. ⌜ plannedCode r ≡ readCode (now (bytes .entry)) (now (table .entry)) ⌝ }
@@ -256,7 +219,7 @@ pub fn read_record(bytes: &[u8], table: &mut [Symbol]) -> Planned
     let planned = check_record(bytes, table);
     if let Planned::Made(plan) = planned {
         let width = width_in(bytes);
-        fill(
+        read_numbers(
             width,
             bytes,
             start_in(bytes) + COUNTS + width,
@@ -265,20 +228,6 @@ pub fn read_record(bytes: &[u8], table: &mut [Symbol]) -> Planned
         );
     }
     planned
-}
-
-// A number in as many bytes as are lent, low first.
-fn write_number(n: Symbol, out: &mut [u8])
-    requires { ⌜ n < 256 ^ length (now out) ⌝ }
-    ensures { λ _. ⌜ now (out .exit) ≡ bytesOf (length (now (out .entry))) n ⌝ }
-{
-    let mut left = n;
-    let mut k = 0;
-    while k < out.len() {
-        out[k] = (left % BYTE) as u8;
-        left /= BYTE;
-        k += 1;
-    }
 }
 
 // The counts, and q in the bytes after them.
@@ -291,18 +240,6 @@ fn write_head(plan: Plan, out: &mut [u8])
     out[2] = plan.limit as u8;
     out[3] = plan.rate as u8;
     write_number(plan.q, &mut out[COUNTS..]);
-}
-
-fn write_symbols(width: usize, table: &[Symbol], out: &mut [u8])
-    requires { ⌜ ((k : ℕ) → at (now table) k < 256 ^ width) × (length (now out) ≡ width * length (now table)) ⌝ }
-    ensures { λ _. ⌜ now (out .exit) ≡ bytesOfAll width (now (table .entry)) ⌝ }
-{
-    let mut k = 0;
-    while k < table.len() {
-        let i = width * k;
-        write_number(table[k], &mut out[i..i + width]);
-        k += 1;
-    }
 }
 
 fn write_trailer(distance: usize, mark: u8, out: &mut [u8])
@@ -324,7 +261,7 @@ fn write_parts(plan: Plan, table: &[Symbol], out: &mut [u8])
     let head = COUNTS + width;
     let end = size - TRAILER;
     write_head(plan, &mut out[..head]);
-    write_symbols(width, table, &mut out[head..end]);
+    write_numbers(width, table, &mut out[head..end]);
     write_trailer(size, mark_of(width), &mut out[end..]);
 }
 

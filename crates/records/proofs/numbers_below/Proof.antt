@@ -3,8 +3,9 @@ use mathlib.Core.Path.{_≡_, refl, sym, ap, _∙_}
 use Prim.Native.Nat.{ℕ, suc, _+_, _-_, _*_}
 use native.Mathlib.Omega.{arith}
 use Rattle.residues.specs.Primes.{allBelow}
-use Rattle.records.specs.Bytes.{numbersAt}
-use Rattle.records.proofs.Bytes.{number-not-below, number-below, no-numbers-below}
+use Rattle.numerals.specs.Bytes.{numberAt, numbersAt}
+use Rattle.numerals.proofs.Bytes.{number-not-below, number-below, no-numbers-below}
+use Rattle.numerals.proofs.Rows.{number-is}
 use Rattle.records.proofs.numbers_below.Statement.{statement}
 use Rattle.records.proofs.numbers_below.Tie as tie
 
@@ -22,13 +23,15 @@ next c = ap (_*_ (c .before .before .before .args .width)) {x = c .before .loop 
 loop-holds : tie.Need-loop-holds Inv-loop μ-loop
 loop-holds c = (refl, refl)
 
-number-at-requires : tie.Need-number-at-requires Inv-loop μ-loop
-number-at-requires c κs = (c .before .before .before .pre .0, omega (arith, next c, c .before .before .before .pre .1, c .before .loop .inv .0))
+-- the number that was read
+read : (c : tie.After-number-at Inv-loop μ-loop) → (let a = c .before .before .before .before .args in
+    c .number-at .result ≡ numberAt (a .width) (a .bytes .now) (c .before .before .loop .i))
+read c = number-is _ _ _ _ (c .before .before .before .before .pre .0) (c .number-at .ensures)
 
 returns : tie.Need-returns Inv-loop μ-loop
 returns c =
     let s = c .before .before .before .loop in
-    sym (number-not-below _ _ _ _ (s .i) (c .before .before .loop-test .taken) (omega (arith, c .if1 .taken, c .before .number-at .ensures))) ∙ s .inv .1
+    sym (number-not-below _ _ _ _ (s .i) (c .before .before .loop-test .taken) (omega (arith, c .if1 .taken, read (c .before)))) ∙ s .inv .1
 
 add-i : tie.Need-add-i Inv-loop μ-loop
 add-i c = omega (arith, next (c .before .before), c .before .before .before .before .before .pre .1, c .before .before .before .loop .inv .0)
@@ -44,7 +47,7 @@ loop-again c =
     let s = c .before .before .before .loop in (
       omega (arith, s .inv .0, next (c .before .before)),
       sym
-          (number-below _ _ _ _ (s .i) (c .before .before .loop-test .taken) (omega (arith, c .if1 .left, c .before .number-at .ensures))) ∙ s .inv .1,
+          (number-below _ _ _ _ (s .i) (c .before .before .loop-test .taken) (omega (arith, c .if1 .left, read (c .before)))) ∙ s .inv .1,
     )
 
 returns-2 : tie.Need-returns-2 Inv-loop μ-loop
@@ -57,7 +60,7 @@ numbers-below-spec =
     Inv-loop
     μ-loop
     loop-holds
-    number-at-requires
+    (λ c κs. tt)
     returns
     add-i
     sub-left

@@ -5,7 +5,8 @@ use Prim.Native.Nat.{ℕ, _+_, _≤_}
 use native.Mathlib.Omega.{arith}
 use lib.ListN.{length}
 use Rattle.lists.specs.Lists.{at}
-use Rattle.records.specs.Bytes.{numberAt}
+use Rattle.numerals.specs.Bytes.{numberAt}
+use Rattle.numerals.proofs.Rows.{number-is}
 use Rattle.records.specs.Records.{widthIn}
 use Rattle.records.proofs.Trailers.{start-room}
 use Rattle.records.proofs.Widths.{told-few}
@@ -43,10 +44,8 @@ cast-t17 c = omega (arith, c .shared-slice-known5 .given (c .before .before .bef
 width-in-requires : tie.Need-width-in-requires
 width-in-requires c κs = omega (arith, room (c .before .before .before .before))
 
-number-at-requires : tie.Need-number-at-requires
-number-at-requires c κs =
-    let B : List ℕ = c .before .before .before .before .before .before .before .args .bytes .now in
-    omega (arith, c .width-in .ensures, told-few B, room (c .before .before .before .before .before))
+few : (c : tie.After-width-in) → c .width-in .result ≤ 4
+few c = omega (arith, c .width-in .ensures, told-few (c .before .before .before .before .before .before .before .args .bytes .now))
 
 returns : tie.Need-returns
 returns c =
@@ -57,7 +56,7 @@ returns c =
       size = ap (λ (n : ℕ). at B (n + 1)) (s .start-in .ensures) i;
       limit = ap (λ (n : ℕ). at B (n + 2)) (s .start-in .ensures) i;
       rate = ap (λ (n : ℕ). at B (n + 3)) (s .start-in .ensures) i;
-      q = (c .number-at .ensures ∙ ap₂ (λ (w n : ℕ). numberAt w B (n + 4)) (c .before .width-in .ensures) (s .start-in .ensures)) i;
+      q = (number-is _ _ _ _ (few (c .before)) (c .number-at .ensures) ∙ ap₂ (λ (w n : ℕ). numberAt w B (n + 4)) (c .before .width-in .ensures) (s .start-in .ensures)) i;
     }
 
 pub plan-in-spec : {M : Type 1} → statement M
@@ -78,5 +77,5 @@ plan-in-spec =
     cast-t17
     width-in-requires
     (search needs)
-    number-at-requires
+    (λ c κs. tt)
     returns)

@@ -1,8 +1,12 @@
-use mathlib.Core.Path.{_≡_, refl, sym, ap, _∙_}
+use mathlib.Core.Path.{_≡_, refl, sym, ap, ap₂, _∙_}
 use mathlib.Core.Bool.{true}
-use mathlib.Core.List.{List}
-use Prim.Native.Nat.{ℕ, _≤_}
+use mathlib.Core.List.{List, _++_}
+use Prim.Native.Nat.{ℕ, _+_, _-_, _≤_}
 use native.Mathlib.Omega.{arith}
+use Rattle.lists.specs.Lists.{zeros}
+use Rattle.numerals.specs.Bytes.{numbersAt}
+use Rattle.numerals.proofs.Bytes.{length-numbers}
+use Rattle.numerals.proofs.Rows.{row-read}
 use Rattle.refusals.specs.Codes.{accepted}
 use Rattle.refusals.proofs.CodeLaws.{refused-keeps, accepted-takes}
 use Rattle.plans.specs.Plans.{plannedCode, plannedPlan, inBounds, noPlan}
@@ -42,15 +46,23 @@ width-in-requires c κs = omega (arith, trailer-of (buffer (c .before)) (passed 
 few : (c : tie.After-width-in) → c .width-in .result ≤ 4
 few c = omega (arith, c .width-in .ensures, told-few (buffer (c .before .before)))
 
-fill-requires : tie.Need-fill-requires
-fill-requires c κs =
-    let p = c .before .before .before .before .before in (
-      few (c .before .before .before),
-      numbers-inside (buffer p) (p .planned .given .0 .0) _ _ _ (plan-is p) (c .before .before .before .width-in .ensures) (c .before .symbols .ensures)
-          (c .before .before .start-in .ensures) (passed p .trailer) (passed p .size),
-      omega (arith, c .before .symbols .ensures, bounded (p .planned .given .0 .0) (in-range p) .symbols),
-      passed p .lent,
-    )
+-- the table that the numbers fill
+filled : (c : tie.After-read-numbers) → (let k = c .before .before in let p = k .before .before .before .before in
+    let w : ℕ = k .before .before .width-in .result in
+    c .read-numbers .last .1 .1 .1 .1 .0 ≡ padded (numbersAt w (k .symbols .result) (buffer p) (k .before .start-in .result + 4 + w)))
+filled c =
+    let k = c .before .before in
+    let p = k .before .before .before .before in
+    let w : ℕ = k .before .before .width-in .result in
+    let K : List ℕ = numbersAt w (k .symbols .result) (buffer p) (k .before .start-in .result + 4 + w) in
+    let count : k .symbols .result ≤ 256 = omega (arith, k .symbols .ensures, bounded (p .planned .given .0 .0) (in-range p) .symbols) in
+    row-read _ _ _ (buffer p) (begun p .args .table .now) (c .read-numbers .last .1 .1 .1 .1 .0) (few (k .before .before))
+    (numbers-inside (buffer p) (p .planned .given .0 .0) _ _ _ (plan-is p) (k .before .before .width-in .ensures) (k .symbols .ensures)
+    (k .before .start-in .ensures) (passed p .trailer) (passed p .size))
+    (omega (arith, passed p .lent))
+    (c .read-numbers .ensures)
+    ∙ ap (λ (m : ℕ). K ++ zeros m)
+    (ap₂ _-_ (passed p .lent) (sym (length-numbers w (k .symbols .result) (buffer p) (k .before .start-in .result + 4 + w))))
 
 returns : tie.Need-returns
 returns c =
@@ -62,7 +74,7 @@ returns c =
       told p,
       (
         plan-is p ∙ sym (accepted-takes (readCode B out) (planRead B) noPlan (told p)),
-        c .before .before .fill .ensures ∙ ap padded numbers ∙ sym (accepted-takes (readCode B out) (padded (tableRead B)) out (told p)),
+        filled (c .before .before) ∙ ap padded numbers ∙ sym (accepted-takes (readCode B out) (padded (tableRead B)) out (told p)),
       ),
     )
 
@@ -86,7 +98,7 @@ read-record-spec =
     (λ c. omega arith)
     (λ c. omega (arith, few (c .before)))
     (λ c κs. in-range (c .before .before .before))
-    fill-requires
+    (λ c κs. tt)
     (λ c. c .match .keys2)
     (λ c. c .before .table .given)
     returns

@@ -1,13 +1,14 @@
 use borrow.Author.Needs.{needs}
 use mathlib.Core.Path.{_≡_, sym, ap, _∙_}
 use mathlib.Core.List.{List, _++_}
-use Prim.Native.Nat.{ℕ, _-_, _^_}
+use Prim.Native.Nat.{ℕ, _-_}
 use native.Mathlib.Omega.{arith}
 use lib.ListN.{length, take, drop, length-set}
 use lib.Seq.{take-all, sets, sets-eq, length-sets}
 use Rattle.lists.proofs.Fronts.{Front, length-part, front-part, front-whole}
-use Rattle.records.specs.Bytes.{bytesOf}
-use Rattle.records.proofs.Bytes.{length-bytes}
+use Rattle.numerals.specs.Bytes.{bytesOf}
+use Rattle.numerals.proofs.Bytes.{length-bytes}
+use Rattle.numerals.proofs.Rows.{number-written}
 use Rattle.records.proofs.PlanSizes.{bounded}
 use Rattle.records.proofs.RecordLaws.{countsOf, headOf}
 use Rattle.records.proofs.write_head.Statement.{statement}
@@ -46,14 +47,8 @@ all c =
     let k : ℕ = length (stored s) - 4 in
     let q : List ℕ = bytesOf (width s) (s .args .plan .q) in
     front-part _ _ (stored s) 4 k (length (s .args .out .now)) (c .write-number .last .1 .0) (omega (arith, f .within, f .whole)) f (omega (arith, f .within))
-    (c .write-number .ensures
-    ∙ ap (λ (n : ℕ). bytesOf n (s .args .plan .q)) (lent s)
+    (number-written (width s) (s .args .plan .q) _ _ (lent s) (s .pre .2) (c .write-number .ensures)
     ∙ sym (take-all k q (omega (arith, length-bytes (width s) (s .args .plan .q), f .whole))))
-
-write-number-requires : tie.Need-write-number-requires
-write-number-requires c κs =
-    let s = c .before .before .before .before .before .before in
-    omega (arith, s .pre .2, ap (λ (n : ℕ). 256 ^ n) (lent s))
 
 same-length : tie.Need-same-length
 same-length c = all (c .before .before) .whole
@@ -76,6 +71,6 @@ write-head-spec =
     (λ c. simp length-set (omega arith))
     (λ c. simp length-set (omega arith))
     (search needs)
-    write-number-requires
+    (λ c κs. tt)
     same-length
     returns)

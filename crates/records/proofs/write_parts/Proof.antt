@@ -10,7 +10,8 @@ use Rattle.lists.specs.Lists.{at}
 use Rattle.lists.proofs.Searches.{true→T}
 use Rattle.lists.proofs.Fronts.{Front, length-part, front-none, front-part, front-whole}
 use Rattle.residues.proofs.PrimeLaws.{prime-pos, true-prime, below-at}
-use Rattle.records.specs.Bytes.{bytesOf}
+use Rattle.numerals.specs.Bytes.{bytesOf}
+use Rattle.numerals.proofs.Rows.{row-written}
 use Rattle.records.specs.Records.{sizeWith, recordWith}
 use Rattle.records.proofs.RecordChecks.{Writable, writable}
 use Rattle.records.proofs.RecordLaws.{countsOf, trailerOf, length-record, head-part, body-part, trailer-part, size-bound}
@@ -80,24 +81,31 @@ one c =
 
 -- ---- and once the symbols are
 
-abbrev widened : tie.After-write-symbols → tie.After-width-of
+symbols-lent : (c : tie.After-write-head) → (let s = c .before .before in
+    length (take (end s - head s) (drop (head s) (first c))) ≡ w s * length (begun s .args .table .now))
+symbols-lent c =
+    let s = c .before .before in
+    length-part (end s - head s) (head s) (first c) (omega (arith, long s, one c .whole)) ∙ omega (arith, long s)
+
+abbrev widened : tie.After-write-numbers → tie.After-width-of
 widened c = c .before .before .before .before .before .before
 
-abbrev second : tie.After-write-symbols → List ℕ
+abbrev second : tie.After-write-numbers → List ℕ
 second c =
     let T : List ℕ = first (c .before .before .before .before) in
     let h : ℕ = head (widened c) in
-    take h T ++ (c .write-symbols .last .1 .1 .0 ++ drop (end (widened c) - h) (drop h T))
+    take h T ++ (c .write-numbers .last .1 .1 .0 ++ drop (end (widened c) - h) (drop h T))
 
-two : (c : tie.After-write-symbols) → Front (buffer (widened c)) (meant (widened c)) (second c) (end (widened c))
+two : (c : tie.After-write-numbers) → Front (buffer (widened c)) (meant (widened c)) (second c) (end (widened c))
 two c =
     let s = widened c in
     let a = begun s .args in
     let f = one (c .before .before .before .before) in
     let body : w s * length (a .table .now) ≡ end s - head s = omega (arith, long s) in
-    front-part _ _ (first (c .before .before .before .before)) (head s) (end s - head s) (end s) (c .write-symbols .last .1 .1 .0) (omega (arith, long s)) f
+    front-part _ _ (first (c .before .before .before .before)) (head s) (end s - head s) (end s) (c .write-numbers .last .1 .1 .0) (omega (arith, long s)) f
     (omega (arith, long s, f .whole))
-    (c .write-symbols .ensures ∙ sym (body-part (w s) (a .plan) (a .table .now)) ∙ ap (λ (n : ℕ). take n (drop (head s) (meant s))) body)
+    (row-written (w s) (a .table .now) _ (take (end s - head s) (drop (head s) (first (c .before .before .before .before)))) (few s) (symbols-lent (c .before .before .before .before)) (all-fit s) (c .write-numbers .ensures)
+    ∙ sym (body-part (w s) (a .plan) (a .table .now)) ∙ ap (λ (n : ℕ). take n (drop (head s) (meant s))) body)
 
 -- ---- what is left
 
@@ -106,12 +114,6 @@ write-head-requires c κs =
     let s = c .before in
     let rest : length (take (head s) (buffer s)) - 4 ≡ w s = omega (arith, head-lent s) in
     (passed s .bounds, omega (arith, head-lent s), omega (arith, fits s, ap (λ (n : ℕ). 256 ^ n) rest))
-
-write-symbols-requires : tie.Need-write-symbols-requires
-write-symbols-requires c κs =
-    let t = c .before .before .before in
-    let s = t .before .before in
-    (all-fit s, length-part (end s - head s) (head s) (first t) (omega (arith, long s, one t .whole)) ∙ omega (arith, long s))
 
 write-trailer-requires : tie.Need-write-trailer-requires
 write-trailer-requires c κs =
@@ -152,7 +154,7 @@ write-parts-spec =
     (λ c. omega (arith, long (c .before .before .before .before)))
     (λ c. omega (arith, long (c .before .before .before .before)))
     (search needs)
-    write-symbols-requires
+    (λ c κs. tt)
     (λ c κs. search needs)
     (search needs)
     (search needs)

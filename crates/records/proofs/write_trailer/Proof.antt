@@ -1,11 +1,12 @@
 use borrow.Author.Needs.{needs}
 use mathlib.Core.Path.{_≡_, sym, ap, _∙_}
 use mathlib.Core.List.{List, [], _∷_, _++_}
-use Prim.Native.Nat.{ℕ, _^_}
+use Prim.Native.Nat.{ℕ}
 use native.Mathlib.Omega.{arith}
 use lib.ListN.{length, take, drop, length-append, length-drop, length-set, drop-of-length-le}
 use lib.Seq.{length-take-le, sets, sets-eq}
-use Rattle.records.specs.Bytes.{bytesOf}
+use Rattle.numerals.specs.Bytes.{bytesOf}
+use Rattle.numerals.proofs.Rows.{number-written}
 use Rattle.records.proofs.write_trailer.Statement.{statement}
 use Rattle.records.proofs.write_trailer.Tie as tie
 
@@ -16,12 +17,11 @@ lent s = length-take-le 2 (s .args .out .now) (omega (arith, s .pre .1))
 slice-aggregate-write-number : tie.Need-slice-aggregate-write-number
 slice-aggregate-write-number c = sym (lent (c .before .before))
 
-write-number-requires : tie.Need-write-number-requires
-write-number-requires c κs = omega (arith, c .before .before .pre .0, ap (λ (n : ℕ). 256 ^ n) (lent (c .before .before)))
-
 -- and takes them
 first : (c : tie.After-write-number) → c .write-number .last .1 .0 ≡ bytesOf 2 (c .before .before .before .args .distance)
-first c = c .write-number .ensures ∙ ap (λ (n : ℕ). bytesOf n (c .before .before .before .args .distance)) (lent (c .before .before .before))
+first c =
+    let s = c .before .before .before in
+    number-written 2 (s .args .distance) _ _ (lent s) (omega (arith, s .pre .0)) (c .write-number .ensures)
 
 slice-write-out : tie.Need-slice-write-out
 slice-write-out c = search needs
@@ -51,7 +51,7 @@ write-trailer-spec =
     (search needs)
     (search needs)
     slice-aggregate-write-number
-    write-number-requires
+    (λ c κs. tt)
     slice-write-out
     slice-write-out-2
     same-length

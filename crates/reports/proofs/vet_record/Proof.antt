@@ -18,7 +18,7 @@ use Rattle.records.specs.Records.{widthIn, start, planRead, tableRead, readChec
 use Rattle.reports.specs.Program.{programCode}
 use Rattle.refusals.proofs.Orders.{first-refuses, rest-decides}
 use Rattle.records.proofs.RecordChecks.{Readable, readable}
-use Rattle.records.proofs.Bytes.{length-numbers}
+use Rattle.numerals.proofs.Bytes.{length-numbers}
 use Rattle.plans.proofs.PlanBounds.{Bounds, bounds-known, few-numbers}
 use Rattle.reports.proofs.vet_record.Statement.{statement}
 use Rattle.reports.proofs.vet_record.Tie as tie

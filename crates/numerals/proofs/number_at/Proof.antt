@@ -4,10 +4,12 @@ use mathlib.Core.List.{List}
 use Prim.Native.Nat.{ℕ, suc, _+_, _-_, _*_, _^_, _≤_, _<_}
 use native.Mathlib.Nat.{pow-suc, pow-le-pow-right}
 use native.Mathlib.Omega.{arith}
+use borrow.Author.Tests.{le-leb, lt-leb}
+use mathlib.Core.Bool.{Bool, cond}
 use Rattle.lists.specs.Lists.{at}
-use Rattle.records.specs.Bytes.{numberAt}
-use Rattle.records.proofs.number_at.Statement.{statement}
-use Rattle.records.proofs.number_at.Tie as tie
+use Rattle.numerals.specs.Bytes.{numberAt}
+use Rattle.numerals.proofs.number_at.Statement.{statement}
+use Rattle.numerals.proofs.number_at.Tie as tie
 
 record ReadFrom (width : ℕ) (B : List ℕ) (i n k : ℕ) : Type 0 where
   within : k ≤ width
@@ -37,22 +39,26 @@ next width B i n k r h b =
       small = omega (arith, r .small, pow-suc 256 (width - k), ap (λ (v : ℕ). 256 ^ v) m);
     }
 
+returns : tie.Need-returns Inv-loop μ-loop
+returns c =
+    let a = c .before .before .args in
+    sym (ap (λ (t : Bool). cond t (numberAt (a .width) (a .bytes .now) (a .i)) 0) (lt-leb (a .width) 4 (c .if1 .taken)))
+
 loop-holds : tie.Need-loop-holds Inv-loop μ-loop
 unfolding numberAt
 loop-holds c =
-    let none : c .args .width - c .args .width ≡ 0 = omega arith in
+    let a = c .before .before .args in
+    let none : a .width - a .width ≡ 0 = omega arith in
     record {
       within = omega arith;
-      same = ap (λ (v : ℕ). numberAt v (c .args .bytes .now) (c .args .i + c .args .width)) (sym none);
+      same = ap (λ (v : ℕ). numberAt v (a .bytes .now) (a .i + a .width)) (sym none);
       small = omega (arith, ap (λ (v : ℕ). 256 ^ v) none);
     }
 
 has-room : (c : tie.In-loop Inv-loop μ-loop) → c .before .loop .n < 256 ^ 3
-has-room c = let s = c .before .loop in room _ _ _ (s .n) (s .k) (s .inv) (c .loop-test .taken) (c .before .before .pre .0)
-
-byte : (c : tie.After-shared-slice-known Inv-loop μ-loop) → at (c .before .before .before .args .bytes .now)
-    (c .before .before .before .args .i + (c .before .before .loop .k - 1)) < 256
-byte c = omega (arith, c .shared-slice-known .given (c .before .before .before .args .i + (c .before .before .loop .k - 1)))
+has-room c =
+    let s = c .before .loop in
+    room _ _ _ (s .n) (s .k) (s .inv) (c .loop-test .taken) (c .before .before .if1 .left)
 
 sub-k : tie.Need-sub-k Inv-loop μ-loop
 sub-k c = omega arith
@@ -61,31 +67,28 @@ mul-n : tie.Need-mul-n Inv-loop μ-loop
 mul-n c = omega (arith, has-room c)
 
 add-n : tie.Need-add-n Inv-loop μ-loop
-add-n c = omega (arith, c .before .before .pre .1, c .before .loop .inv .within)
-
-shared-slice-read-n : tie.Need-shared-slice-read-n Inv-loop μ-loop
-shared-slice-read-n c = omega (arith, c .before .before .before .pre .1, c .before .before .loop .inv .within)
-
-cast-n : tie.Need-cast-n Inv-loop μ-loop
-cast-n c = omega (arith, byte c)
-
-add-n-2 : tie.Need-add-n-2 Inv-loop μ-loop
-add-n-2 c = omega (arith, byte c, has-room (c .before))
+add-n c = omega (arith, c .byte-at .ensures .1, has-room (c .before))
 
 loop-less : tie.Need-loop-less Inv-loop μ-loop
 loop-less c = omega (arith, c .before .loop-test .taken)
 
 loop-again : tie.Need-loop-again Inv-loop μ-loop
-loop-again c = let s = c .before .before .loop in next _ _ _ (s .n) (s .k) (s .inv) (c .before .loop-test .taken) (byte c)
+loop-again c =
+    let s = c .before .before .loop in
+    let a = c .before .before .before .before .before .args in
+    let (is, small) = c .byte-at .ensures in
+    let byte : at (a .bytes .now) (a .i + (s .k - 1)) < 256 = omega (arith, is, small) in
+    rw is (next _ _ _ (s .n) (s .k) (s .inv) (c .before .loop-test .taken) byte)
 
-returns : tie.Need-returns Inv-loop μ-loop
-returns c =
+returns-2 : tie.Need-returns-2 Inv-loop μ-loop
+returns-2 c =
     let s = c .before .loop in
-    let a = c .before .before .args in
+    let a = c .before .before .before .before .args in
     let none : s .k ≡ 0 = omega (arith, c .loop-test .left) in
     let whole : a .width - s .k ≡ a .width = omega arith in
     let first : a .i + s .k ≡ a .i = omega arith in
     s .inv .same ∙ ap₂ (λ (m j : ℕ). numberAt m (a .bytes .now) j) whole first
+    ∙ sym (ap (λ (t : Bool). cond t (numberAt (a .width) (a .bytes .now) (a .i)) 0) (le-leb (a .width) 4 (c .before .before .if1 .left)))
 
 pub number-at-spec : {M : Type 1} → statement M
 number-at-spec =
@@ -93,13 +96,12 @@ number-at-spec =
     (tie.spec
     Inv-loop
     μ-loop
+    returns
     loop-holds
     sub-k
     mul-n
+    (λ c κs. tt)
     add-n
-    shared-slice-read-n
-    cast-n
-    add-n-2
     loop-less
     loop-again
-    returns)
+    returns-2)

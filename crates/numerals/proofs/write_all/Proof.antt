@@ -1,28 +1,30 @@
 -- The invariant: up to number k the buffer is what it is to be.
 use mathlib.Core.Path.{_≡_, refl, sym, ap, _∙_}
-use mathlib.Core.List.{List}
-use Prim.Native.Nat.{ℕ, _+_, _-_, _*_, _^_, _≤_}
+use mathlib.Core.List.{List, map}
+use Prim.Native.Nat.{ℕ, _+_, _-_, _*_, _≤_, _<_}
 use native.Mathlib.Nat.{mul-le-mul-left}
 use native.Mathlib.Omega.{arith}
-use lib.ListN.{length, take, drop}
+use lib.ListN.{length, take, drop, length-map}
 use Rattle.lists.specs.Lists.{at}
+use Rattle.lists.proofs.ListLaws.{map-get}
 use Rattle.lists.proofs.Fronts.{Front, row-fits, length-part, front-none, front-part, front-whole}
-use Rattle.records.specs.Bytes.{bytesOf, bytesOfAll}
-use Rattle.records.proofs.Bytes.{length-all, all-at}
-use Rattle.records.proofs.write_symbols.Statement.{statement}
-use Rattle.records.proofs.write_symbols.Tie as tie
+use Rattle.numerals.specs.Bytes.{bytesOf, bytesOfAll, cut}
+use Rattle.numerals.proofs.Bytes.{length-all, all-at}
+use Rattle.numerals.proofs.write_all.Statement.{statement}
+use Rattle.numerals.proofs.write_all.Tie as tie
 
 abbrev Inv-loop : tie.InvT-loop
-Inv-loop width table out₀ k₀ out k = Front out₀ (bytesOfAll width table) out (width * k)
+Inv-loop width numbers out₀ k₀ out k = Front out₀ (bytesOfAll width (map (cut width) numbers)) out (width * k)
 
 abbrev μ-loop : tie.MeasureT-loop
-μ-loop width table out₀ k₀ out k = length table - k
+μ-loop width numbers out₀ k₀ out k = length numbers - k
 
 loop-holds : tie.Need-loop-holds Inv-loop μ-loop
 loop-holds c =
     let a = c .before .before .args in
-    front-none (a .out .now) (bytesOfAll (a .width) (a .table .now)) (a .width * 0) (omega arith)
-    (length-all (a .width) (a .table .now) ∙ sym (c .before .before .pre .1))
+    let K : List ℕ = map (cut (a .width)) (a .numbers .now) in
+    front-none (a .out .now) (bytesOfAll (a .width) K) (a .width * 0) (omega arith)
+    (length-all (a .width) K ∙ ap (_*_ (a .width)) (length-map (a .numbers .now) (cut (a .width))) ∙ sym (c .before .before .pre))
 
 -- number k has its bytes in the buffer
 room : (c : tie.In-loop Inv-loop μ-loop) → (let w : ℕ = c .before .before .before .before .args .width in
@@ -32,8 +34,8 @@ room c =
     omega (
       arith,
       c .before .loop .inv .whole,
-      c .before .before .before .before .pre .1,
-      row-fits (length (a .table .now)) (a .width) (c .before .loop .k) (length (a .table .now) * a .width) (c .loop-test .taken) refl,
+      c .before .before .before .before .pre,
+      row-fits (length (a .numbers .now)) (a .width) (c .before .loop .k) (length (a .numbers .now) * a .width) (c .loop-test .taken) refl,
     )
 
 lent : (w k : ℕ) (out : List ℕ) → w * k + w ≤ length out → length (take (w * k + w - w * k) (drop (w * k) out)) ≡ w
@@ -60,12 +62,6 @@ part-write-number-start c = omega arith
 part-write-number-end : tie.Need-part-write-number-end Inv-loop μ-loop
 part-write-number-end c = omega (arith, room (c .before))
 
-write-number-requires : tie.Need-write-number-requires Inv-loop μ-loop
-write-number-requires c κs =
-    let s = c .before .before .before .loop in
-    let t = c .before .before .before .before .before .before in
-    omega (arith, t .pre .0 (s .k), ap (λ (n : ℕ). 256 ^ n) (lent (t .args .width) (s .k) (s .out) (room (c .before .before))))
-
 add-k : tie.Need-add-k Inv-loop μ-loop
 add-k c = omega (arith, c .before .before .before .before .before .loop-test .taken)
 
@@ -77,14 +73,16 @@ loop-again c =
     let s = c .before .before .before .before .before .before .loop in
     let a = c .before .before .before .before .before .before .before .before .before .args in
     let w : ℕ = a .width in
-    let K : List ℕ = a .table .now in
+    let K : List ℕ = map (cut w) (a .numbers .now) in
     let n : ℕ = w * s .k + w - w * s .k in
     let same : w ≡ n = omega arith in
     let inside : w * s .k + w ≤ length (s .out) = room (c .before .before .before .before .before) in
+    let some : s .k < length (a .numbers .now) = c .before .before .before .before .before .loop-test .taken in
     front-part _ _ (s .out) (w * s .k) n (w * (s .k + 1)) (c .before .before .write-number .last .1 .0) (omega arith) (s .inv) (omega arith)
     (c .before .before .write-number .ensures
-    ∙ ap (λ (m : ℕ). bytesOf m (at K (s .k))) (lent w (s .k) (s .out) inside)
-    ∙ sym (all-at w K (s .k) (c .before .before .before .before .before .loop-test .taken))
+    ∙ ap (λ (m : ℕ). bytesOf m (cut m (at (a .numbers .now) (s .k)))) (lent w (s .k) (s .out) inside)
+    ∙ ap (bytesOf w) (sym (map-get (cut w) (a .numbers .now) (s .k) 0 0 some))
+    ∙ sym (all-at w K (s .k) (omega (arith, length-map (a .numbers .now) (cut w))))
     ∙ ap (λ (m : ℕ). take m (drop (w * s .k) (bytesOfAll w K))) same)
 
 same-length : tie.Need-same-length Inv-loop μ-loop
@@ -98,12 +96,12 @@ returns c =
     (omega (
       arith,
       s .inv .whole,
-      t .pre .1,
-      mul-le-mul-left {m = length (t .args .table .now)} {n = s .k} (t .args .width) (c .loop-test .left),
+      t .pre,
+      mul-le-mul-left {m = length (t .args .numbers .now)} {n = s .k} (t .args .width) (c .loop-test .left),
     ))
 
-pub write-symbols-spec : {M : Type 1} → statement M
-write-symbols-spec =
+pub write-all-spec : {M : Type 1} → statement M
+write-all-spec =
     tie.close
     (tie.spec
     Inv-loop
@@ -116,7 +114,7 @@ write-symbols-spec =
     sub-write-number
     part-write-number-start
     part-write-number-end
-    write-number-requires
+    (λ c κs. tt)
     add-k
     loop-less
     loop-again

@@ -2,21 +2,19 @@
 use mathlib.Core.Path.{_≡_, refl, sym, ap, _∙_}
 use mathlib.Core.List.{List, _++_, append-nil}
 use Prim.Native.Nat.{ℕ, suc, _+_, _-_, _/_, _%_, _^_, _≤_, _<_}
-use native.Mathlib.Nat.{pow-suc}
 use native.Mathlib.Numerals.{add-one}
 use native.Mathlib.Omega.{arith}
 use lib.ListN.{length, take, set, length-set}
 use lib.Seq.{take-suc-set, take-all, append-snoc}
-use Rattle.records.specs.Bytes.{bytesOf}
-use Rattle.records.proofs.Bytes.{low-byte}
-use Rattle.records.proofs.write_number.Statement.{statement}
-use Rattle.records.proofs.write_number.Tie as tie
+use Rattle.numerals.specs.Bytes.{bytesOf, cut}
+use Rattle.numerals.proofs.Rows.{low-cut}
+use Rattle.numerals.proofs.write_number.Statement.{statement}
+use Rattle.numerals.proofs.write_number.Tie as tie
 
 record Written (n : ℕ) (out₀ out : List ℕ) (left k : ℕ) : Type 0 where
   within : k ≤ length out
   whole : length out ≡ length out₀
-  small : left < 256 ^ (length out₀ - k)
-  same : take k out ++ bytesOf (length out₀ - k) left ≡ bytesOf (length out₀) n
+  same : take k out ++ bytesOf (length out₀ - k) (cut (length out₀ - k) left) ≡ bytesOf (length out₀) (cut (length out₀) n)
 
 abbrev Inv-loop : tie.InvT-loop
 Inv-loop n out₀ left₀ k₀ out left k = Written n out₀ out left k
@@ -29,16 +27,14 @@ next : (n : ℕ) (out₀ out : List ℕ) (left k : ℕ) → Written n out₀ out
 next n out₀ out left k w h =
     let m : ℕ = length out₀ - (k + 1) in
     let rest : length out₀ - k ≡ suc m = omega (arith, w .whole) in
-    let fits : left < 256 ^ suc m = omega (arith, w .small, ap (λ (x : ℕ). 256 ^ x) rest) in
     record {
       within = omega (arith, length-set out k (left % 256));
       whole = length-set out k (left % 256) ∙ w .whole;
-      small = omega (arith, pow-suc 256 m);
       same =
-          ap (λ (x : ℕ). take x (set out k (left % 256)) ++ bytesOf m (left / 256)) (add-one k)
-          ∙ ap (λ (l : List ℕ). l ++ bytesOf m (left / 256)) (take-suc-set out k (left % 256) h)
-          ∙ append-snoc (take k out) (left % 256) (bytesOf m (left / 256))
-          ∙ ap (λ (l : List ℕ). take k out ++ l) (sym (low-byte m left fits) ∙ ap (λ (x : ℕ). bytesOf x left) (sym rest))
+          ap (λ (x : ℕ). take x (set out k (left % 256)) ++ bytesOf m (cut m (left / 256))) (add-one k)
+          ∙ ap (λ (l : List ℕ). l ++ bytesOf m (cut m (left / 256))) (take-suc-set out k (left % 256) h)
+          ∙ append-snoc (take k out) (left % 256) (bytesOf m (cut m (left / 256)))
+          ∙ ap (λ (l : List ℕ). take k out ++ l) (sym (low-cut m left) ∙ ap (λ (x : ℕ). bytesOf x (cut x left)) (sym rest))
           ∙ w .same;
     }
 
@@ -46,12 +42,7 @@ loop-holds : tie.Need-loop-holds Inv-loop μ-loop
 loop-holds c =
     let out : List ℕ = c .args .out .now in
     let all : length out - 0 ≡ length out = omega arith in
-    record {
-      within = omega arith;
-      whole = refl;
-      small = omega (arith, c .pre, ap (λ (x : ℕ). 256 ^ x) all);
-      same = ap (λ (x : ℕ). bytesOf x (c .args .n)) all;
-    }
+    record { within = omega arith; whole = refl; same = ap (λ (x : ℕ). bytesOf x (cut x (c .args .n))) all }
 
 cast-out : tie.Need-cast-out Inv-loop μ-loop
 cast-out c = omega arith
@@ -78,7 +69,7 @@ returns c =
     let none : length (c .before .before .args .out .now) - s .k ≡ 0 = omega (arith, s .inv .whole, c .loop-test .left) in
     sym (take-all (s .k) (s .out) (c .loop-test .left))
     ∙ sym (append-nil (take (s .k) (s .out)))
-    ∙ ap (λ (x : ℕ). take (s .k) (s .out) ++ bytesOf x (s .left)) (sym none)
+    ∙ ap (λ (x : ℕ). take (s .k) (s .out) ++ bytesOf x (cut x (s .left))) (sym none)
     ∙ s .inv .same
 
 pub write-number-spec : {M : Type 1} → statement M

@@ -11,7 +11,7 @@ use lib.Seq.{drop-cons, append-snoc, take-at, drop-append-add, getD-append-seam}
 use borrow.Author.Tests.{lt-ltb, le-ltb}
 use Rattle.residues.specs.Primes.{allBelow}
 use Rattle.lists.specs.Lists.{at}
-use Rattle.records.specs.Bytes.{bytesOf, bytesOfAll, numberAt, numbersAt}
+use Rattle.numerals.specs.Bytes.{bytesOf, bytesOfAll, numberAt, numbersAt}
 
 -- every number is a byte: past its end a list reads 0, so no length is asked
 abbrev pub AreBytes : List ℕ → Type 0

@@ -1,0 +1,2 @@
+-- Numbers as bytes, and rows of them.
+pub mod Bytes
