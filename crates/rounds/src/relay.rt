@@ -100,8 +100,8 @@ impl RelayRound {
         Verdict::Accepted
     }
 
-    // A state that is handed in: 1, 2, 9, 8, 3.
-    fn check_state(self) -> Verdict
+    // A state that is handed in: 1, 2, 9, 8, 3. Who keeps a round's state outside asks it too.
+    pub fn check_state(self) -> Verdict
         ensures { λ r. ⌜ verdictCode r ≡ firstOf (relayChecks self) ⌝ }
     {
         let round = self.round;
