@@ -1,0 +1,4 @@
+pub mod StateLaws
+pub mod Ways
+pub mod SaveRows
+pub mod RestoreChecks
