@@ -1,15 +1,21 @@
 -- A save as rows of numbers, written one after the other.
-use Prim.Native.Nat.{ℕ, zero, suc, _+_, _*_, _≤_, _<_}
+use Prim.Native.Nat.{ℕ, zero, suc, _+_, _*_, _^_, _≤_, _<_}
 use mathlib.Core.Path.{_≡_, refl, sym, ap, ap₂, _∙_}
+use mathlib.Core.Bool.{true}
 use mathlib.Core.List.{List, [], _∷_, _++_, append-assoc}
 use native.Mathlib.Omega.{arith}
 use lib.ListN.{length, take, drop, length-append, length-drop, take-append-drop}
 use lib.Seq.{take-at, drop-append-add, length-take-le, drop-drop}
 use Rattle.lists.specs.Lists.{at, All}
 use Rattle.numerals.specs.Bytes.{bytesOf, bytesOfAll}
-use Rattle.numerals.proofs.Bytes.{length-all}
+use Rattle.numerals.proofs.Bytes.{AreBytes, length-all, bytes-append, numbers-bytes}
 use Rattle.rounds.specs.declared.RelayRound.{RelayRound}
+use Rattle.rounds.specs.Rounds.{sumsFit}
+use Rattle.residues.specs.Primes.{allBelow}
+use Rattle.residues.proofs.PrimeLaws.{prime-pos, true-prime, below-at}
+use Rattle.lists.proofs.Searches.{true→T, T-and}
 use Rattle.checkpoints.specs.Checkpoints.{saveSize, saveOf}
+use Rattle.checkpoints.proofs.StateLaws.{Passed, counts, few-length, few-cluster}
 
 -- ---- the rows
 
@@ -105,3 +111,47 @@ pub few-below : (n : ℕ) → 0 < n → (l : List ℕ) → All (λ x. x < n) l �
 few-below n pos [] a k = pos
 few-below n pos (x ∷ l) a zero = a .0
 few-below n pos (x ∷ l) a (suc k) = few-below n pos l (a .1) k
+
+-- ---- each number of a state that passed its checks fits in its bytes
+
+pub record Fitting (R : RelayRound) : Type 0 where
+  pub in-counts : (k : ℕ) → at (countsOf R) k < 256 ^ 1
+  pub in-words : (k : ℕ) → at (wordsOf R) k < 256 ^ 4
+  pub in-rolls : (k : ℕ) → at (rollsOf R) k < 256 ^ 2
+  pub in-sums : (k : ℕ) → at (sumsOf R) k < 256 ^ 4
+  pub in-held : (k : ℕ) → at (heldSumsOf R) k < 256 ^ 4
+  pub in-trailer : (k : ℕ) → at (trailerOf R) k < 256 ^ 2
+
+module _ (R : RelayRound) (p : Passed R) (prime : R .round .q < 2 ^ 32) where
+  below-prime : (sums : List ℕ) → sumsFit (R .round .q) (R .round .length) sums ≡ true → (k : ℕ) → at (take (R .round .length) sums) k < 256 ^ 4
+  below-prime sums e k =
+      let q : ℕ = R .round .q in
+      let l : List ℕ = take (R .round .length) sums in
+      let (low, _) = T-and (allBelow q l) (allBelow 1 (drop (R .round .length) sums)) (true→T _ e) in
+      omega (arith, below-at q l (prime-pos (true-prime q (p .prime))) low k)
+
+  pub fitting : R .round .number < 2 ^ 32 → R .round .reported < 2 ^ 16 → R .ahead .reported < 2 ^ 16 → Fitting R
+  fitting number first second =
+      let n = counts R p in
+      record {
+        in-counts = few-below 256 (omega arith) (countsOf R)
+            (omega (arith, n .few-clusters), (omega (arith, n .few-size), (omega (arith, n .few-clusters, few-cluster R p), (omega (arith, few-length R p), tt))));
+        in-words = few-below (256 ^ 4) (omega arith) (wordsOf R) (omega arith, (omega arith, tt));
+        in-rolls = few-below (256 ^ 2) (omega arith) (rollsOf R) (omega arith, (omega arith, tt));
+        in-sums = below-prime (R .round .sums) (p .first-sums);
+        in-held = below-prime (R .ahead .sums) (p .held-sums);
+        in-trailer = few-below (256 ^ 2) (omega arith) (trailerOf R) (omega (arith, few-length R p), (omega arith, tt));
+      }
+
+-- so a save is made of bytes
+pub save-bytes : (R : RelayRound) → Fitting R → AreBytes (saveOf R)
+save-bytes R f =
+    let head : AreBytes (headOf R) =
+    bytes-append (bytesOfAll 1 (countsOf R)) (bytesOfAll 4 (wordsOf R) ++ bytesOfAll 2 (rollsOf R)) (numbers-bytes 1 (countsOf R) (f .in-counts))
+    (bytes-append (bytesOfAll 4 (wordsOf R)) (bytesOfAll 2 (rollsOf R)) (numbers-bytes 4 (wordsOf R) (f .in-words))
+    (numbers-bytes 2 (rollsOf R) (f .in-rolls))) in
+    let tail : AreBytes (tailOf R) =
+    bytes-append (bytesOfAll 4 (sumsOf R)) (bytesOfAll 4 (heldSumsOf R) ++ bytesOfAll 2 (trailerOf R)) (numbers-bytes 4 (sumsOf R) (f .in-sums))
+    (bytes-append (bytesOfAll 4 (heldSumsOf R)) (bytesOfAll 2 (trailerOf R)) (numbers-bytes 4 (heldSumsOf R) (f .in-held))
+    (numbers-bytes 2 (trailerOf R) (f .in-trailer))) in
+    rw (save-rows R) (bytes-append (headOf R) (tailOf R) head tail)

@@ -74,11 +74,15 @@ pub record Savable (R : RelayRound) (out : List ℕ) (used : ℕ) : Type 0 where
   pub state : Passed R
   pub room : used + saveSize (R .round .length) ≤ length out
 
+pub state-first : (R : RelayRound) (out : List ℕ) (used : ℕ) → accepted ≡ saveCode R out used → accepted ≡ firstOf (relayChecks R)
+state-first R out used e =
+    first-accepts (relayChecks R) ((not (leb (used + saveSize (R .round .length)) (length out)), code 4) ∷ []) tt e
+
 pub savable : (R : RelayRound) (out : List ℕ) (used : ℕ) → accepted ≡ saveCode R out used → Savable R out used
 savable R out used e =
     let w = none-holds (saveChecks R out used) tt e in
     let enough : Bool = leb (used + saveSize (R .round .length)) (length out) in
     record {
-      state = passed R (first-accepts (relayChecks R) ((not enough, code 4) ∷ []) tt e);
+      state = passed R (state-first R out used e);
       room = leb-true (used + saveSize (R .round .length)) (length out) (not-false enough (w .1 .1 .1 .1 .1 .1 .0));
     }

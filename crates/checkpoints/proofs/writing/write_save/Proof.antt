@@ -1,25 +1,20 @@
 -- Row by row the buffer takes the save.
 use borrow.Author.Needs.{needs}
-use mathlib.Core.Path.{_≡_, refl, sym, ap, ap₂, _∙_}
-use mathlib.Core.Bool.{true}
-use mathlib.Core.List.{List, [], _∷_, _++_, append-assoc}
+use mathlib.Core.Path.{_≡_, sym, ap, ap₂, _∙_, subst}
+use mathlib.Core.List.{List, [], _∷_, _++_}
 use Prim.Native.Nat.{ℕ, _+_, _*_, _^_, _≤_, _<_}
 use native.Mathlib.Omega.{arith}
 use lib.ListN.{length, take, drop}
 use lib.Seq.{length-take-le}
 use Rattle.lists.specs.Lists.{at}
-use Rattle.lists.proofs.Searches.{true→T, T-and}
-use Rattle.residues.specs.Primes.{allBelow}
-use Rattle.residues.proofs.PrimeLaws.{prime-pos, true-prime, below-at}
 use Rattle.plans.specs.Plans.{maxLength}
 use Rattle.plans.proofs.PlanBounds.{Counts}
 use Rattle.numerals.specs.Bytes.{bytesOfAll}
 use Rattle.rounds.specs.declared.RelayRound.{RelayRound}
-use Rattle.rounds.specs.Rounds.{sumsFit}
 use Rattle.checkpoints.specs.Checkpoints.{saveSize, saveOf}
-use Rattle.checkpoints.proofs.StateLaws.{Passed, Savable, savable, counts, few-length, few-cluster}
-use Rattle.checkpoints.proofs.SaveRows.{countsOf, wordsOf, rollsOf, sumsOf, heldSumsOf, trailerOf, headOf, tailOf, save-rows}
-use Rattle.checkpoints.proofs.SaveRows.{Wrote, wrote-none, wrote-length, wrote-row, few-below, regrouped}
+use Rattle.checkpoints.proofs.StateLaws.{Savable, savable, counts, few-length, few-cluster}
+use Rattle.checkpoints.proofs.SaveRows.{countsOf, wordsOf, rollsOf, sumsOf, heldSumsOf, trailerOf, save-rows}
+use Rattle.checkpoints.proofs.SaveRows.{Wrote, wrote-none, wrote-length, wrote-row, Fitting, fitting, regrouped}
 use Rattle.checkpoints.proofs.writing.write_save.Statement.{statement}
 use Rattle.checkpoints.proofs.writing.write_save.Tie as tie
 
@@ -47,32 +42,14 @@ second-row : (s : tie.Start) → length (heldSumsOf (s .args .round)) ≡ s .arg
 second-row s = length-take-le (s .args .round .round .length) (s .args .round .ahead .sums) (omega (arith, held-long s, few s))
 
 -- each number fits in its bytes
-below-prime : (s : tie.Start) (sums : List ℕ) → sumsFit (s .args .round .round .q) (s .args .round .round .length) sums ≡ true → (k : ℕ)
-    → at (take (s .args .round .round .length) sums) k < 256 ^ 4
-below-prime s sums e k =
-    let q : ℕ = s .args .round .round .q in
-    let l : List ℕ = take (s .args .round .round .length) sums in
-    let (low, _) = T-and (allBelow q l) (allBelow 1 (drop (s .args .round .round .length) sums)) (true→T _ e) in
-    let fits : q < 2 ^ 32 = omega arith in
-    omega (arith, below-at q l (prime-pos (true-prime q (ready s .state .prime))) low k)
+fit : (s : tie.Start) → Fitting (s .args .round)
+fit s = fitting (s .args .round) (ready s .state) (omega arith) (omega arith) (omega arith) (omega arith)
 
 counts-fit : (s : tie.Start) → Counts (s .args .round .round .clusters) (s .args .round .round .size) 0
 counts-fit s = counts (s .args .round) (ready s .state)
 
 cluster-fits : (s : tie.Start) → s .args .round .cluster ≤ 8
 cluster-fits s = omega (arith, counts-fit s .few-clusters, few-cluster (s .args .round) (ready s .state))
-
-counts-low : (s : tie.Start) (k : ℕ) → at (countsOf (s .args .round)) k < 256 ^ 1
-counts-low s =
-    let n = counts-fit s in
-    few-below 256 (omega arith) (countsOf (s .args .round))
-    (omega (arith, n .few-clusters), (omega (arith, n .few-size), (omega (arith, cluster-fits s), (omega (arith, few s), tt))))
-
-words-low : (s : tie.Start) (k : ℕ) → at (wordsOf (s .args .round)) k < 256 ^ 4
-words-low s = few-below (256 ^ 4) (omega arith) (wordsOf (s .args .round)) (omega arith, (omega arith, tt))
-
-rolls-low : (s : tie.Start) (k : ℕ) → at (rollsOf (s .args .round)) k < 256 ^ 2
-rolls-low s = few-below (256 ^ 2) (omega arith) (rollsOf (s .args .round)) (omega arith, (omega arith, tt))
 
 -- ---- the buffer after each row
 
@@ -129,8 +106,8 @@ sized : (c : tie.After-put) → c .before .before .before .size-of .result ≡ s
 sized c = c .before .before .before .size-of .ensures
 
 distance-low : (c : tie.After-put) (k : ℕ) → at (c .before .before .before .size-of .result ∷ 0x524b ∷ []) k < 256 ^ 2
-distance-low c =
-    few-below (256 ^ 2) (omega arith) (c .before .before .before .size-of .result ∷ 0x524b ∷ []) (omega (arith, few (start c), sized c), (omega arith, tt))
+distance-low c k =
+    subst (λ (n : ℕ). at (n ∷ 0x524b ∷ []) k < 256 ^ 2) (sym (sized c)) (fit (start c) .in-trailer k)
 
 w6 : (c : tie.After-put6) → (let s = start6 c in Wrote (s .args .out .now) ((((((take (s .args .used) (s .args .out .now) ++ bytesOfAll 1 (countsOf (s .args .round))) ++ bytesOfAll 4 (wordsOf (s .args .round))) ++ bytesOfAll 2 (rollsOf (s .args .round))) ++ bytesOfAll 4 (sumsOf (s .args .round))) ++ bytesOfAll 4 (heldSumsOf (s .args .round))) ++ bytesOfAll 2 (trailerOf (s .args .round))) (c .put6 .last .1 .1 .0) (c .put6 .result))
 w6 c =
@@ -143,27 +120,27 @@ w6 c =
 -- ---- what is left
 
 put-requires : tie.Need-put-requires
-put-requires c κs = let s = begun (c .before .before .before) in (omega arith, counts-low s, omega (arith, ready s .room))
+put-requires c κs = let s = begun (c .before .before .before) in (omega arith, fit s .in-counts, omega (arith, ready s .room))
 
 put-requires-2 : tie.Need-put-requires-2
 put-requires-2 c κs =
     let s = start (c .before .before .before .before) in
-    (omega arith, words-low s, omega (arith, ready s .room, wrote-length _ _ _ _ (w1 (c .before .before .before .before)), c .before .before .before .before .put .ensures .0))
+    (omega arith, fit s .in-words, omega (arith, ready s .room, wrote-length _ _ _ _ (w1 (c .before .before .before .before)), c .before .before .before .before .put .ensures .0))
 
 put-requires-3 : tie.Need-put-requires-3
 put-requires-3 c κs =
     let s = start2 (c .before .before .before .before) in
-    (omega arith, rolls-low s, omega (arith, ready s .room, wrote-length _ _ _ _ (w2 (c .before .before .before .before)), c .before .before .before .before .put2 .ensures .0, c .before .before .before .before .before .before .before .before .before .put .ensures .0))
+    (omega arith, fit s .in-rolls, omega (arith, ready s .room, wrote-length _ _ _ _ (w2 (c .before .before .before .before)), c .before .before .before .before .put2 .ensures .0, c .before .before .before .before .before .before .before .before .before .put .ensures .0))
 
 put-requires-4 : tie.Need-put-requires-4
 put-requires-4 c κs =
     let s = start3 (c .before .before .before .before) in
-    (omega arith, below-prime s (s .args .round .round .sums) (ready s .state .first-sums), omega (arith, ready s .room, wrote-length _ _ _ _ (w3 (c .before .before .before .before)), c .before .before .before .before .put3 .ensures .0, c .before .before .before .before .before .before .before .before .before .put2 .ensures .0, c .before .before .before .before .before .before .before .before .before .before .before .before .before .before .put .ensures .0, first-row s))
+    (omega arith, fit s .in-sums, omega (arith, ready s .room, wrote-length _ _ _ _ (w3 (c .before .before .before .before)), c .before .before .before .before .put3 .ensures .0, c .before .before .before .before .before .before .before .before .before .put2 .ensures .0, c .before .before .before .before .before .before .before .before .before .before .before .before .before .before .put .ensures .0, first-row s))
 
 put-requires-5 : tie.Need-put-requires-5
 put-requires-5 c κs =
     let s = start4 (c .before .before .before .before) in
-    (omega arith, below-prime s (s .args .round .ahead .sums) (ready s .state .held-sums), omega (arith, ready s .room, wrote-length _ _ _ _ (w4 (c .before .before .before .before)), c .before .before .before .before .put4 .ensures .0, c .before .before .before .before .before .before .before .before .before .put3 .ensures .0, c .before .before .before .before .before .before .before .before .before .before .before .before .before .before .put2 .ensures .0, c .before .before .before .before .before .before .before .before .before .before .before .before .before .before .before .before .before .before .before .put .ensures .0, first-row s, second-row s))
+    (omega arith, fit s .in-held, omega (arith, ready s .room, wrote-length _ _ _ _ (w4 (c .before .before .before .before)), c .before .before .before .before .put4 .ensures .0, c .before .before .before .before .before .before .before .before .before .put3 .ensures .0, c .before .before .before .before .before .before .before .before .before .before .before .before .before .before .put2 .ensures .0, c .before .before .before .before .before .before .before .before .before .before .before .before .before .before .before .before .before .before .before .put .ensures .0, first-row s, second-row s))
 
 put-requires-6 : tie.Need-put-requires-6
 put-requires-6 c κs =

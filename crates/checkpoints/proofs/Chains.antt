@@ -1,0 +1,148 @@
+-- Saves one after the other: which one each step back finds.
+use Prim.Native.Nat.{ℕ, zero, suc, _+_, _-_, _≤_, _<_}
+use mathlib.Core.Path.{_≡_, refl, sym, ap, ap₂, _∙_, subst}
+use mathlib.Core.Bool.{Bool, true, false, _||_}
+use mathlib.Core.List.{List, [], _∷_, _++_, append-assoc, append-nil}
+use native.Mathlib.Omega.{arith}
+use lib.ListN.{length, take, drop, length-append}
+use lib.Seq.{take-at, length-take-le}
+use Rattle.lists.specs.Lists.{All}
+use Rattle.lists.proofs.Members.{all-right}
+use Rattle.refusals.specs.Codes.{code, accepted, firstOf, ifAccepted}
+use Rattle.refusals.proofs.CodeLaws.{accepted-takes}
+use Rattle.plans.specs.Plans.{countsFit, lengthFits}
+use Rattle.rounds.specs.declared.RelayRound.{RelayRound}
+use Rattle.rounds.specs.Relays.{relayChecks}
+use Rattle.checkpoints.specs.Checkpoints.{saveSize, saveOf, saveCode, bytesAfter, usedAfter, distanceAt, endBack, badWay, lastByte, roundAt, roundRead}
+use Rattle.checkpoints.specs.Checkpoints.{restoreCode, restored}
+use Rattle.checkpoints.specs.Stores.{Store, usedBytes, storeAfter, stored, NoneRefused, RowsOf64}
+use Rattle.checkpoints.proofs.StateLaws.{passed, savable, state-first}
+use Rattle.checkpoints.proofs.Ways.{trailer-good}
+use Rattle.checkpoints.proofs.RestoreChecks.{state-decides}
+use Rattle.checkpoints.proofs.SaveLaws.{SavedAt, saved-at, save-length}
+
+-- a round that passes its checks
+pub record Sound (R : RelayRound) : Type 0 where
+  pub rows : RowsOf64 R
+  pub state : accepted ≡ firstOf (relayChecks R)
+
+-- the saves of these rounds, the last one first
+abbrev pub savesOf : List RelayRound → List ℕ
+savesOf [] = []
+savesOf (R ∷ earlier) = savesOf earlier ++ saveOf R
+
+length-saves : (R : RelayRound) (earlier : List RelayRound) → Sound R → length (savesOf (R ∷ earlier)) ≡ length (savesOf earlier) + saveSize (R .round .length)
+length-saves R earlier s =
+    length-append (savesOf earlier) (saveOf R)
+    ∙ ap (λ (n : ℕ). length (savesOf earlier) + n) (save-length [] R [] (s .rows .0) (s .rows .1) (passed R (s .state)))
+
+-- the last of them ends with its trailer, whatever stands behind
+last-save : (R : RelayRound) (earlier : List RelayRound) (after B : List ℕ) → Sound R → B ≡ savesOf (R ∷ earlier) ++ after → SavedAt B (length (savesOf (R ∷ earlier))) R
+last-save R earlier after B s e =
+    let there = saved-at (savesOf earlier) R after (s .rows .0) (s .rows .1) (passed R (s .state)) in
+    subst (λ (l : List ℕ). SavedAt l (length (savesOf (R ∷ earlier))) R) (sym (e ∙ append-assoc (savesOf earlier) (saveOf R) after))
+    (subst (λ (n : ℕ). SavedAt (savesOf earlier ++ (saveOf R ++ after)) n R) (sym (length-saves R earlier s)) there)
+
+-- one step back from it leads to the end of the one before
+step-back : (R : RelayRound) (earlier : List RelayRound) (after B : List ℕ) → Sound R → B ≡ savesOf (R ∷ earlier) ++ after
+    → length (savesOf (R ∷ earlier)) - distanceAt B (length (savesOf (R ∷ earlier))) ≡ length (savesOf earlier)
+step-back R earlier after B s e = omega (arith, length-saves R earlier s, last-save R earlier after B s e .size)
+
+-- what stands behind the save before
+behind : (R : RelayRound) (earlier : List RelayRound) (after B : List ℕ) → B ≡ savesOf (R ∷ earlier) ++ after → B ≡ savesOf earlier ++ (saveOf R ++ after)
+behind R earlier after B e = e ∙ append-assoc (savesOf earlier) (saveOf R) after
+
+-- as many steps back as there are later saves
+way-to : (later : List RelayRound) (R : RelayRound) (earlier : List RelayRound) (after B : List ℕ) → All Sound (later ++ (R ∷ earlier))
+    → B ≡ savesOf (later ++ (R ∷ earlier)) ++ after
+    → (badWay B (length later) (length (savesOf (later ++ (R ∷ earlier)))) ≡ false)
+    × (endBack B (length later) (length (savesOf (later ++ (R ∷ earlier)))) ≡ length (savesOf (R ∷ earlier)))
+unfolding badWay endBack
+way-to [] R earlier after B all e = (trailer-good B (length (savesOf (R ∷ earlier))) (last-save R earlier after B (all .0) e .trailer), refl)
+way-to (X ∷ later) R earlier after B all e =
+    let rest : List RelayRound = later ++ (R ∷ earlier) in
+    let here : ℕ = length (savesOf (X ∷ rest)) in
+    let good = trailer-good B here (last-save X rest after B (all .0) e .trailer) in
+    let back = step-back X rest after B (all .0) e in
+    let (way, end) = way-to later R earlier (saveOf X ++ after) B (all .1) (behind X rest after B e) in (
+      ap (λ (t : Bool). t || badWay B (length later) (here - distanceAt B here)) good ∙ ap (badWay B (length later)) back ∙ way,
+      ap (endBack B (length later)) back ∙ end,
+    )
+
+-- and as many as there are saves, or more
+way-beyond : (Rs : List RelayRound) (after B : List ℕ) (n : ℕ) → All Sound Rs → B ≡ savesOf Rs ++ after → length Rs ≤ n → badWay B n (length (savesOf Rs)) ≡ true
+unfolding badWay
+way-beyond [] after B zero all e h = refl
+way-beyond [] after B (suc n) all e h = refl
+way-beyond (X ∷ rest) after B zero all e h = absurd (omega arith)
+way-beyond (X ∷ rest) after B (suc n) all e h =
+    let here : ℕ = length (savesOf (X ∷ rest)) in
+    let good = trailer-good B here (last-save X rest after B (all .0) e .trailer) in
+    ap (λ (t : Bool). t || badWay B n (here - distanceAt B here)) good
+    ∙ ap (badWay B n) (step-back X rest after B (all .0) e)
+    ∙ way-beyond rest (saveOf X ++ after) B n (all .1) (behind X rest after B e) (omega arith)
+
+-- ---- restoring
+
+-- a save that stands where the steps lead is restored
+pub restore-saved : (B : List ℕ) (steps : ℕ) (R : RelayRound) → badWay B steps (length B) ≡ false → SavedAt B (lastByte B steps) R → accepted ≡ firstOf (relayChecks R)
+    → (accepted ≡ restoreCode B steps) × (restored B steps ≡ R)
+restore-saved B steps R way at ok =
+    let p = passed R ok in
+    let same : roundRead B steps ≡ R = at .round in
+    let e : accepted ≡ restoreCode B steps =
+    ok
+    ∙ ap (λ (X : RelayRound). firstOf (relayChecks X)) (sym same)
+    ∙ state-decides B steps way
+    (ap (λ (X : RelayRound). countsFit (X .round .clusters) (X .round .size) 0) same ∙ p .fit)
+    (ap (λ (X : RelayRound). lengthFits (X .round .length)) same ∙ p .long)
+    (at .size ∙ ap (λ (X : RelayRound). saveSize (X .round .length)) (sym same)) in
+    (e, accepted-takes (restoreCode B steps) (roundRead B steps) _ e ∙ same)
+
+pub chain-found : (later : List RelayRound) (R : RelayRound) (earlier : List RelayRound) → All Sound (later ++ (R ∷ earlier))
+    → (let B : List ℕ = savesOf (later ++ (R ∷ earlier)) in (accepted ≡ restoreCode B (length later)) × (restored B (length later) ≡ R))
+chain-found later R earlier all =
+    let B : List ℕ = savesOf (later ++ (R ∷ earlier)) in
+    let whole : B ≡ B ++ [] = sym (append-nil B) in
+    let (way, end) = way-to later R earlier [] B all whole in
+    let one : Sound R = all-right Sound later (R ∷ earlier) all .0 in
+    let (before, split) = front later (R ∷ earlier) in
+    restore-saved B (length later) R way
+    (subst (λ (n : ℕ). SavedAt B n R) (sym end) (last-save R earlier before B one split)) (one .state)
+  where
+    -- what the later saves are
+    front : (later rest : List RelayRound) → (after : List ℕ) × (savesOf (later ++ rest) ≡ savesOf rest ++ after)
+    front [] rest = ([], sym (append-nil (savesOf rest)))
+    front (X ∷ later) rest =
+        let (after, e) = front later rest in
+        (after ++ saveOf X, ap (λ (l : List ℕ). l ++ saveOf X) e ∙ append-assoc (savesOf rest) after (saveOf X))
+
+pub chain-beyond : (Rs : List RelayRound) (n : ℕ) → All Sound Rs → length Rs ≤ n → restoreCode (savesOf Rs) n ≡ code 5
+chain-beyond Rs n all h = rw (way-beyond Rs [] (savesOf Rs) n all (sym (append-nil (savesOf Rs))) h)
+
+-- ---- calls of `save`
+
+-- the used bytes after a save that was accepted
+pub used-after : (R : RelayRound) (S : Store) → accepted ≡ saveCode R (S .bytes) (S .used) → RowsOf64 R → usedBytes (storeAfter R S) ≡ usedBytes S ++ saveOf R
+used-after R S e rows =
+    let ok = savable R (S .bytes) (S .used) e in
+    let D : ℕ = saveSize (R .round .length) in
+    let before : List ℕ = take (S .used) (S .bytes) in
+    let rest : List ℕ = drop (S .used + D) (S .bytes) in
+    let long : length (before ++ saveOf R) ≡ S .used + D =
+    length-append before (saveOf R)
+    ∙ ap₂ _+_ (length-take-le (S .used) (S .bytes) (omega (arith, ok .room))) (save-length [] R [] (rows .0) (rows .1) (ok .state)) in
+    ap₂ take (accepted-takes (saveCode R (S .bytes) (S .used)) (S .used + D) (S .used) e)
+    (accepted-takes (saveCode R (S .bytes) (S .used)) (before ++ saveOf R ++ rest) (S .bytes) e)
+    ∙ take-at (before ++ saveOf R) rest (S .used + D) long
+
+pub stored-bytes : (S : Store) (Rs : List RelayRound) → S .used ≡ 0 → NoneRefused S Rs → All RowsOf64 Rs → usedBytes (stored S Rs) ≡ savesOf Rs
+unfolding stored
+stored-bytes S [] none ok rows = ap (λ (n : ℕ). take n (S .bytes)) none
+stored-bytes S (R ∷ earlier) none ok rows =
+    used-after R (stored S earlier) (ok .0) (rows .0) ∙ ap (λ (l : List ℕ). l ++ saveOf R) (stored-bytes S earlier none (ok .1) (rows .1))
+
+pub all-sound : (S : Store) (Rs : List RelayRound) → NoneRefused S Rs → All RowsOf64 Rs → All Sound Rs
+all-sound S [] ok rows = tt
+all-sound S (R ∷ earlier) ok rows =
+    (record { rows = rows .0; state = state-first R (stored S earlier .bytes) (stored S earlier .used) (ok .0) }, all-sound S earlier (ok .1) (rows .1))
