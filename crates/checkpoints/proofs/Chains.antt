@@ -1,19 +1,23 @@
 -- Saves one after the other: which one each step back finds.
 use Prim.Native.Nat.{ℕ, zero, suc, _+_, _-_, _≤_, _<_}
 use mathlib.Core.Path.{_≡_, refl, sym, ap, ap₂, _∙_, subst}
-use mathlib.Core.Bool.{Bool, true, false, _||_}
+use mathlib.Core.Bool.{Bool, true, false, not, _||_}
 use mathlib.Core.List.{List, [], _∷_, _++_, append-assoc, append-nil}
 use native.Mathlib.Omega.{arith}
-use lib.ListN.{length, take, drop, length-append}
-use lib.Seq.{take-at, length-take-le}
+use borrow.Author.Tests.{le-leb}
+use lib.Dec.{leb}
+use lib.ListN.{length, take, drop, length-append, length-drop}
+use lib.Seq.{take-at, drop-at, length-take-le}
 use Rattle.lists.specs.Lists.{All}
 use Rattle.lists.proofs.Members.{all-right}
-use Rattle.refusals.specs.Codes.{code, accepted, firstOf, ifAccepted}
-use Rattle.refusals.proofs.CodeLaws.{accepted-takes}
+use Rattle.refusals.specs.declared.Code.{Code}
+use Rattle.refusals.specs.Codes.{code, accepted, firstOf, isAccepted}
+use Rattle.refusals.proofs.CodeLaws.{accepted-takes, new-taken, old-kept}
+use Rattle.refusals.proofs.Orders.{rest-decides, number-accepts}
 use Rattle.plans.specs.Plans.{countsFit, lengthFits}
 use Rattle.rounds.specs.declared.RelayRound.{RelayRound}
 use Rattle.rounds.specs.Relays.{relayChecks}
-use Rattle.checkpoints.specs.Checkpoints.{saveSize, saveOf, saveCode, bytesAfter, usedAfter, distanceAt, endBack, badWay, lastByte, roundAt, roundRead}
+use Rattle.checkpoints.specs.Checkpoints.{saveSize, saveOf, saveChecks, saveCode, distanceAt, endBack, badWay, lastByte, roundAt, roundRead}
 use Rattle.checkpoints.specs.Checkpoints.{restoreCode, restored}
 use Rattle.checkpoints.specs.Stores.{Store, usedBytes, storeAfter, stored, NoneRefused, RowsOf64}
 use Rattle.checkpoints.proofs.StateLaws.{passed, savable, state-first}
@@ -146,3 +150,72 @@ pub all-sound : (S : Store) (Rs : List RelayRound) → NoneRefused S Rs → All 
 all-sound S [] ok rows = tt
 all-sound S (R ∷ earlier) ok rows =
     (record { rows = rows .0; state = state-first R (stored S earlier .bytes) (stored S earlier .used) (ok .0) }, all-sound S earlier (ok .1) (rows .1))
+
+-- ---- what was saved is found again
+
+module _ (S : Store) (none : S .used ≡ 0) (Rs : List RelayRound) (rows : All RowsOf64 Rs) (ok : NoneRefused S Rs) where
+  there : usedBytes (stored S Rs) ≡ savesOf Rs
+  there = stored-bytes S Rs none ok rows
+
+  pub chain-restored : (later : List RelayRound) (R : RelayRound) (earlier : List RelayRound) → Rs ≡ later ++ (R ∷ earlier)
+      → (restoreCode (usedBytes (stored S Rs)) (length later) ≡ accepted) × (restored (usedBytes (stored S Rs)) (length later) ≡ R)
+  chain-restored later R earlier e =
+      let same : usedBytes (stored S Rs) ≡ savesOf (later ++ (R ∷ earlier)) = there ∙ ap savesOf e in
+      let (code, round) = chain-found later R earlier (subst (All Sound) e (all-sound S Rs ok rows)) in
+      (ap (λ (l : List ℕ). restoreCode l (length later)) same ∙ sym code, ap (λ (l : List ℕ). restored l (length later)) same ∙ round)
+
+  pub chain-refused : (steps : ℕ) → length Rs ≤ steps → restoreCode (usedBytes (stored S Rs)) steps ≡ code 5
+  chain-refused steps h = ap (λ (l : List ℕ). restoreCode l steps) there ∙ chain-beyond Rs steps (all-sound S Rs ok rows) h
+
+-- a save is found whatever stands before it
+module _ (R : RelayRound) (rows : RowsOf64 R) where
+  pub save-found : accepted ≡ firstOf (relayChecks R) → (S : Store) → S .used + saveSize (R .round .length) ≤ length (S .bytes)
+      → (saveCode R (S .bytes) (S .used) ≡ accepted)
+      × (restoreCode (usedBytes (storeAfter R S)) 0 ≡ accepted)
+      × (restored (usedBytes (storeAfter R S)) 0 ≡ R)
+  unfolding badWay endBack
+  save-found ok S room =
+      let last : List (Bool × Code) = (not (leb (S .used + saveSize (R .round .length)) (length (S .bytes))), code 4) ∷ [] in
+      let saved : saveCode R (S .bytes) (S .used) ≡ accepted =
+      sym (rest-decides (relayChecks R) last tt ok) ∙ rw (le-leb (S .used + saveSize (R .round .length)) (length (S .bytes)) room) in
+      let B : List ℕ = usedBytes (storeAfter R S) in
+      let before : List ℕ = usedBytes S in
+      let split : B ≡ before ++ (saveOf R ++ []) = used-after R S (sym saved) rows ∙ ap (λ (l : List ℕ). before ++ l) (sym (append-nil (saveOf R))) in
+      let size : length (saveOf R) ≡ saveSize (R .round .length) = save-length [] R [] (rows .0) (rows .1) (passed R ok) in
+      let long : length B ≡ length before + saveSize (R .round .length) =
+      ap length split ∙ length-append before (saveOf R ++ []) ∙ omega (arith, length-append (saveOf R) [], size) in
+      let at = subst (λ (l : List ℕ). SavedAt l (length before + saveSize (R .round .length)) R) (sym split)
+      (saved-at before R [] (rows .0) (rows .1) (passed R ok)) in
+      let here : SavedAt B (length B) R = subst (λ (n : ℕ). SavedAt B n R) (sym long) at in
+      let (code, round) = restore-saved B 0 R (trailer-good B (length B) (here .trailer)) here ok in
+      (saved, sym code, round)
+
+  -- and nothing else is written, by a refused call nothing at all
+  pub untouched : (S : Store)
+      → (length (storeAfter R S .bytes) ≡ length (S .bytes))
+      × (take (S .used) (storeAfter R S .bytes) ≡ take (S .used) (S .bytes))
+      × (drop (storeAfter R S .used) (storeAfter R S .bytes) ≡ drop (storeAfter R S .used) (S .bytes))
+  untouched S = go (isAccepted (saveCode R (S .bytes) (S .used))) refl
+    where
+      go : (t : Bool) → isAccepted (saveCode R (S .bytes) (S .used)) ≡ t
+          → (length (storeAfter R S .bytes) ≡ length (S .bytes))
+          × (take (S .used) (storeAfter R S .bytes) ≡ take (S .used) (S .bytes))
+          × (drop (storeAfter R S .used) (storeAfter R S .bytes) ≡ drop (storeAfter R S .used) (S .bytes))
+      go true e =
+          let ok : accepted ≡ saveCode R (S .bytes) (S .used) = number-accepts (saveChecks R (S .bytes) (S .used)) tt e in
+          let n : ℕ = S .used + saveSize (R .round .length) in
+          let X : List ℕ = take (S .used) (S .bytes) in
+          let rest : List ℕ = drop n (S .bytes) in
+          let fits = savable R (S .bytes) (S .used) ok in
+          let front : length X ≡ S .used = length-take-le (S .used) (S .bytes) (omega (arith, fits .room)) in
+          let long : length (X ++ saveOf R) ≡ n =
+          length-append X (saveOf R) ∙ ap₂ _+_ front (save-length [] R [] (rows .0) (rows .1) (fits .state)) in
+          let bytes : storeAfter R S .bytes ≡ X ++ saveOf R ++ rest = new-taken (saveCode R (S .bytes) (S .used)) (X ++ saveOf R ++ rest) (S .bytes) e in
+          let used : storeAfter R S .used ≡ n = new-taken (saveCode R (S .bytes) (S .used)) n (S .used) e in (
+            ap length bytes ∙ length-append (X ++ saveOf R) rest ∙ omega (arith, long, length-drop n (S .bytes), fits .room),
+            ap (take (S .used)) (bytes ∙ append-assoc X (saveOf R) rest) ∙ take-at X (saveOf R ++ rest) (S .used) front,
+            ap₂ drop used bytes ∙ drop-at (X ++ saveOf R) rest n long ∙ ap (λ (m : ℕ). drop m (S .bytes)) (sym used),
+          )
+      go false e =
+          let bytes : storeAfter R S .bytes ≡ S .bytes = old-kept (saveCode R (S .bytes) (S .used)) _ (S .bytes) e in
+          (ap length bytes, ap (take (S .used)) bytes, ap (drop (storeAfter R S .used)) bytes)

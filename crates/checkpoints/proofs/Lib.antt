@@ -6,3 +6,4 @@ pub mod SaveLaws
 pub mod Chains
 pub mod Replays
 pub mod Refused
+pub mod OneSaves

@@ -1,0 +1,57 @@
+-- Q-11: each statement.
+use Prim.Native.Nat.{ℕ}
+use mathlib.Core.Path.{_≡_, refl, sym, ap, _∙_}
+use mathlib.Core.Bool.{true}
+use mathlib.Core.List.{List, _∷_, _++_}
+use lib.ListN.{length}
+use Rattle.refusals.specs.Codes.{code}
+use Rattle.rounds.specs.declared.RelayRound.{RelayRound}
+use Rattle.rounds.specs.Relays.{Event, relayRun}
+use Rattle.checkpoints.specs.Checkpoints.{badTrailerAt, endBack, restoreCode, restored}
+use Rattle.checkpoints.specs.Stores.{Store, usedBytes, stored}
+use Rattle.checkpoints.specs.Replays.{changesOf, Repeats}
+use Rattle.checkpoints.proofs.Chains.{save-found, untouched, chain-restored, chain-refused}
+use Rattle.checkpoints.proofs.OneSaves.{read-again, same-saves}
+use Rattle.checkpoints.proofs.SaveRows.{fitting, save-bytes}
+use Rattle.checkpoints.proofs.StateLaws.{passed}
+use Rattle.checkpoints.proofs.Replays.{repeats-lead, changes-repeat, all-repeat, run-on}
+use Rattle.checkpoints.proofs.Refused.{no-room, first-wrong, last-wrong, too-near, too-far, bad-somewhere, somewhere-bad, way-five, five-way, other-distance}
+use Rattle.demands.specs.SavedRounds.{SavedIsRestored, RestUntouched, StepsBack, OneSave, SaveIsBytes, ComesBack, BadOnTheWay, OnlyBadOnTheWay, OtherDistance}
+
+pub saved-is-restored : SavedIsRestored
+saved-is-restored R rows ok S room = save-found R rows ok S room
+
+pub rest-untouched : RestUntouched
+rest-untouched R rows S = untouched R rows S
+
+pub steps-back : StepsBack
+steps-back S none Rs rows ok =
+    (λ later R earlier e. chain-restored S none Rs rows ok later R earlier e, λ steps h. chain-refused S none Rs rows ok steps h)
+
+pub one-save : OneSave
+one-save B b steps r = (read-again B b steps r, λ C c others q same. same-saves B C b c steps others r q same)
+
+pub save-is-bytes : SaveIsBytes
+save-is-bytes R ok q n a b = save-bytes R (fitting R (passed R ok) q n a b)
+
+pub comes-back : (O : RelayRound) (before since : List Event) (S : Store) (later earlier : List RelayRound) → ComesBack O before since S later earlier
+comes-back O before since S later earlier none rows ok =
+    let kept : RelayRound = relayRun O before in
+    let same = chain-restored S none (later ++ (kept ∷ earlier)) rows ok later kept earlier refl .1 in
+    let ends : (repeated : List Event) → Repeats kept since repeated
+    → relayRun (restored (usedBytes (stored S (later ++ (kept ∷ earlier)))) (length later)) repeated ≡ relayRun O (before ++ since) = λ repeated r.
+    ap (λ (X : RelayRound). relayRun X repeated) same ∙ repeats-lead kept since repeated r ∙ sym (run-on O before since) in
+    (ends (changesOf kept since) (changes-repeat kept since), ends since (all-repeat kept since), ends)
+
+module _ (B : List ℕ) (steps : ℕ) where
+  pub bad-on-the-way : BadOnTheWay B steps
+  bad-on-the-way n few =
+      let five : badTrailerAt B (endBack B n (length B)) ≡ true → restoreCode B steps ≡ code 5 = λ bad.
+      way-five B steps (bad-somewhere B steps n (length B) few bad) in
+      (λ h. five (no-room B _ h), λ h. five (first-wrong B _ h), λ h. five (last-wrong B _ h), λ h. five (too-near B _ h), λ h. five (too-far B _ h))
+
+  pub only-bad-on-the-way : OnlyBadOnTheWay B steps
+  only-bad-on-the-way e = somewhere-bad B steps (length B) (five-way B steps e)
+
+  pub distance-told : OtherDistance B steps
+  distance-told w f l n = other-distance B steps w f l n
