@@ -1,19 +1,18 @@
 -- Relays under one lock: the statements of specs/JointRelays.
-use Prim.Native.Nat.{ℕ, _-_}
-use mathlib.Core.Path.{_≡_, ap, _∙_}
+use Prim.Native.Nat.{ℕ}
+use mathlib.Core.Path.{_∙_}
 use mathlib.Core.List.{List}
-use native.Mathlib.Omega.{arith}
-use Rattle.refusals.specs.declared.Code.{Code}
-use Rattle.secrecy.proofs.PairLeaks.{joint-equal-numbers, two-clusters-leak}
+use Rattle.secrecy.proofs.PairLeaks.{two-clusters-leak}
 use Rattle.plans.specs.declared.Plan.{Plan}
 use Rattle.vetting.specs.declared.Joint.the-variants.{None, Relays}
 use Rattle.vetting.specs.Pools.{poolOf}
 use Rattle.plans.proofs.PlanBounds.{bounds-known}
 use Rattle.vetting.proofs.VetLaws.{passed}
-use Rattle.vetting.proofs.ExactSecrecy.{checked, accepted-checked}
+use Rattle.vetting.proofs.ExactSecrecy.{checked}
 use Rattle.vetting.proofs.Looking.{accepted-looked}
 use Rattle.vetting.proofs.JointLaws.{joint-none, table-refuses, joint-iff, joint-named, joint-quiet}
 use Rattle.vetting.proofs.JointTheorems.{wrong-pair, wrong-count, only-wrong-pair, refused-alone, accepted-fits, accepted-vet, accepted-count}
+use Rattle.vetting.proofs.JointTheorems.{accepted-pair-quiet, accepted-pair-equal}
 use Rattle.vetting.proofs.JointTheorems.{joint-last, joint-count, two-relays}
 use Rattle.demands.specs.JointRelays.{Few, WithoutPair, AcceptedAlone, WrongPair, RefusedAlone, JointHides, RefusedIffJointLeaks, NamesLeast}
 use Rattle.demands.specs.JointRelays.{TableFirst, OnlyWrongPair, AcceptedIff, TwoRelaysSeeAll, TwoRelaysLeak}
@@ -43,9 +42,7 @@ module _ (P : Plan) (K : List ℕ) where
           let fit = accepted-fits P K a b e in (
             v,
             fit,
-            (λ g f leak.
-                let z : _≡_ {A = ℕ} 0 19 = ap (λ (d : Code). d .number) e ∙ joint-iff P K a b v fit .1 (g, f .users, f .few, leak) in
-                absurd (omega arith)),
+            (λ g f. accepted-pair-quiet P K a b e g (f .users) (f .few)),
           )),
       (λ k. joint-quiet P K a b (k .0) (k .1) (λ g users few. k .2 g (record { users = users; few = few }))),
     )
@@ -54,10 +51,7 @@ module _ (P : Plan) (K : List ℕ) where
     refused-as-alone = refused-alone P K a b
 
     pub joint-hides : JointHides P K a b
-    joint-hides e g f =
-        let v = accepted-vet P K a b e in
-        let c = checked P K (accepted-checked P K v) in
-        joint-equal-numbers (poolOf P K) (c .prime) (c .valid) (a - 1) (b - 1) g (accepted-iff .0 e .2 g f)
+    joint-hides e g f = accepted-pair-equal P K a b e g (f .users) (f .few)
 
     pub refused-iff-joint-leaks : RefusedIffJointLeaks P K a b
     refused-iff-joint-leaks v fit =

@@ -2,24 +2,24 @@
 -- those of the ledger, and so is the answer when sums are wanted.
 use Prim.Native.Nat.{ℕ, suc, _+_, _-_, _%_, _^_, _≤_, _<_}
 use mathlib.Core.Path.{_≡_, refl, sym, ap, ap₂, _∙_, subst}
-use mathlib.Core.Bool.{Bool, true, false, cond, not, _&&_, _||_}
+use mathlib.Core.Bool.{Bool, true, false, cond, not, _||_}
 use mathlib.Core.List.{List, [], _∷_, _++_}
-use native.Mathlib.Nat.{add-zero, mod-lt, mod-eq-of-lt}
+use native.Mathlib.Nat.{add-zero, mod-eq-of-lt}
 use native.Mathlib.Decide.{ℕ-discrete, decLt}
 use native.Mathlib.Omega.{arith}
 use lib.Dec.{ltb, eqb}
-use lib.ListN.{length, take, drop, length-drop}
-use lib.Seq.{getD-take, getD-drop, length-take-le}
+use lib.ListN.{length, take}
+use lib.Seq.{getD-take}
 use borrow.Author.Tests.{not-false, eq-eqb, ne-eqb, lt-ltb, le-ltb}
 use Rattle.refusals.specs.declared.Code.{Code}
 use Rattle.refusals.specs.Codes.{code, accepted, firstOf, ifAccepted}
 use Rattle.refusals.proofs.CodeLaws.{none-holds}
 use Rattle.residues.specs.Primes.{allBelow}
-use Rattle.lists.proofs.Searches.{T→true, true→T, one-known}
+use Rattle.lists.proofs.Searches.{true→T, one-known}
 use Rattle.residues.proofs.Congruence.{c-refl, c-add, of-rem, to-mod}
-use Rattle.residues.proofs.PrimeLaws.{prime-pos, below-at, at-below}
+use Rattle.residues.proofs.PrimeLaws.{prime-pos, below-at}
 use Rattle.lists.specs.Lists.{at, tab}
-use Rattle.lists.proofs.ListLaws.{at-tab, length-tab, tab-at, tab-cong}
+use Rattle.lists.proofs.ListLaws.{at-tab, tab-at, tab-cong}
 use Rattle.refusals.proofs.Orders.{first-decides, rest-decides, number-accepts}
 use Rattle.rounds.specs.declared.Round.{Round}
 use Rattle.rounds.specs.Ledger.{Frame, named, bitsOf, countedAt}
@@ -28,6 +28,7 @@ use Rattle.rounds.specs.Machine.{Good}
 use Rattle.rounds.specs.Rounds.{oneOf, sumsFit, stateChecks, hasReported, isFull, after, ownChecks, lentChecks, frameChecks, giveChecks, stepCode}
 use Rattle.rounds.specs.Rounds.{stepped, giveCode, sumsAfter, answersOf, runOf, noted, ledgerAnswers, ledgerOf, ledgerGiveCode, ledgerSums}
 use Rattle.rounds.proofs.CheckLaws.{good-state, Passed, frame-known}
+use Rattle.rounds.proofs.FitSums.{sums-fit}
 use Rattle.rounds.proofs.ReportedLaws.{bit-added, added-below}
 use Rattle.rounds.proofs.StepLaws.{all-cong, or-none, past-zero}
 use Rattle.plans.specs.Plans.{maxLength}
@@ -164,28 +165,7 @@ module _ (senders : ℕ) (known : Bool) (R : Round) where
 
   -- the round of a ledger is good where R is
   pub after-sums : Good senders R → (ledger : List Frame) → sumsFit (R .q) (R .length) (tab maxLength (summed ledger)) ≡ true
-  after-sums g ledger =
-      let S : List ℕ = tab maxLength (summed ledger) in
-      let L : ℕ = R .length in
-      let pos : 0 < R .q = prime-pos (g .opening .prime) in
-      let few : L ≤ maxLength = g .opening .few-length in
-      let low : allBelow (R .q) (take L S) ≡ true =
-      T→true _ (at-below (R .q) (take L S)
-      (λ i h.
-      let l : i < L = subst (λ (n : ℕ). i < n) (length-take-le L S (omega (arith, length-tab maxLength (summed ledger)))) h in
-      subst (λ (z : ℕ). z < R .q)
-      (sym (getD-take L S i 0 l ∙ at-tab maxLength (summed ledger) i (omega arith) ∙ ap (λ (t : Bool). cond t ((at (R .sums) i + countedAt ledger i) % R .q) 0)
-      (lt-ltb i L l)))
-      (mod-lt (at (R .sums) i + countedAt ledger i) pos))) in
-      let high : allBelow 1 (drop L S) ≡ true =
-      T→true _ (at-below 1 (drop L S)
-      (λ i h.
-      let l : i < maxLength - L = subst (λ (n : ℕ). i < n) (length-drop L S ∙ ap (λ (n : ℕ). n - L) (length-tab maxLength (summed ledger))) h in
-      subst (λ (z : ℕ). z < 1)
-      (sym (getD-drop L S i 0 ∙ at-tab maxLength (summed ledger) (L + i) (omega arith) ∙ ap
-      (λ (t : Bool). cond t ((at (R .sums) (L + i) + countedAt ledger (L + i)) % R .q) 0) (le-ltb (L + i) L (omega arith))))
-      (omega arith))) in
-      ap₂ _&&_ low high
+  after-sums g ledger = sums-fit (R .q) (R .length) maxLength (λ p. at (R .sums) p + countedAt ledger p) (prime-pos (g .opening .prime))
 
   module _ (e : accepted ≡ firstOf (stateChecks senders known R)) where
     pub after-state : (ledger : List Frame) → Sound senders R ledger → accepted ≡ firstOf (stateChecks senders known (after R ledger))

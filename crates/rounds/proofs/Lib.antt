@@ -2,7 +2,8 @@ mod CheckLaws
 mod RelaySteps
 mod ReportedLaws
 mod StepLaws
-mod Zeros
+pub mod Zeros
+pub mod FitSums
 pub mod LedgerLaws
 pub mod RelayLedger
 pub mod RelaySums

@@ -153,21 +153,27 @@ module _ (P : Pool) where
   -- ---- the observers
 
   module _ (pos : 0 < P .q) where
+    -- a view has its places
+    pub set-places : (b : ℕ → Bool) (g L : ℕ) (W N : List ℕ) → Symbols (P .q) (users P) L W
+        → Vector (P .q) (places P (howMany (users P) b) g L) (setView P b g L W N)
+    set-places b g L W N =
+        see-vector (P .q) (users P) (P .rate) L W N pos (howMany (users P) b + (howMany (users P) (inCoalition g) + howMany (users P) (inCoalition g)))
+        (units P g) (seenForms P g (users P) b (upForm P)) (Agree P g) (setView P b g) (set-forms P b g) (length-seen P g (users P) b (upForm P))
+
+    pub server-places : (g L : ℕ) (W N : List ℕ) → Symbols (P .q) (users P) L W → Vector (P .q) (places P (P .clusters) g L) (serverView P g L W N)
+    server-places g L W N =
+        see-vector (P .q) (users P) (P .rate) L W N pos (P .clusters + (howMany (users P) (inCoalition g) + howMany (users P) (inCoalition g)))
+        (ones P ∷ units P g) (seenForms P g (P .clusters) (λ _. true) (sumForm P)) (ServerAgree P g) (serverView P g) (server-forms P g)
+        (length-seen P g (P .clusters) (λ _. true) (sumForm P)
+        ∙ ap (λ (z : ℕ). z + (howMany (users P) (inCoalition g) + howMany (users P) (inCoalition g))) (many-all (P .clusters)))
+
     -- of the uploads of the users that b picks
     pub set-search-iff : (b : ℕ → Bool) (g : ℕ) → T (setLeaks P b g) ↔ Leak (P .q) (P .rate) (Symbols (P .q) (users P)) (Agree P g) (setView P b g)
     set-search-iff b g =
-        found-iff (membersAgree P g) (Agree P g) (agree-iff g) (places P (howMany (users P) b) g) (setView P b g)
-        (λ L W N.
-        see-vector (P .q) (users P) (P .rate) L W N pos (howMany (users P) b + (howMany (users P) (inCoalition g) + howMany (users P) (inCoalition g)))
-        (units P g) (seenForms P g (users P) b (upForm P)) (Agree P g) (setView P b g) (set-forms P b g) (length-seen P g (users P) b (upForm P)))
+        found-iff (membersAgree P g) (Agree P g) (agree-iff g) (places P (howMany (users P) b) g) (setView P b g) (set-places b g)
 
     -- a relay or the server
     pub search-iff : (g w : ℕ) → T (leaks P g w) ↔ PairLeak P g w
     search-iff g zero =
-        found-iff (agree P g zero) (ServerAgree P g) (server-agree-iff g) (places P (P .clusters) g) (serverView P g)
-        (λ L W N.
-        see-vector (P .q) (users P) (P .rate) L W N pos (P .clusters + (howMany (users P) (inCoalition g) + howMany (users P) (inCoalition g)))
-        (ones P ∷ units P g) (seenForms P g (P .clusters) (λ _. true) (sumForm P)) (ServerAgree P g) (serverView P g) (server-forms P g)
-        (length-seen P g (P .clusters) (λ _. true) (sumForm P)
-        ∙ ap (λ (z : ℕ). z + (howMany (users P) (inCoalition g) + howMany (users P) (inCoalition g))) (many-all (P .clusters))))
+        found-iff (agree P g zero) (ServerAgree P g) (server-agree-iff g) (places P (P .clusters) g) (serverView P g) (server-places g)
     search-iff g (suc u) = set-search-iff (inCluster P u) g

@@ -12,4 +12,8 @@ pub mod PairLeaks
 mod Independence
 mod Coalitions
 pub mod Clusters
-mod LeakTest
+pub mod LeakTest
+mod OverAll
+pub mod Pieces
+pub mod RunCounts
+pub mod ViewParts

@@ -46,7 +46,7 @@ symbols-vector q n R h size =
       small = λ i l. subst (λ (x : ℕ). x < q) (sym (map-get (symbolOf q) R i (pos 0) 0 (omega (arith, size)))) (symbol-below q (getD R i (pos 0)) h);
     }
 
-vector-below : (q n : ℕ) (l : List ℕ) → Vector q n l → allBelow q l ≡ true
+pub vector-below : (q n : ℕ) (l : List ℕ) → Vector q n l → allBelow q l ≡ true
 vector-below q n l vec = T→true (allBelow q l) (at-below q l (λ i h. vec .small i (subst (λ (n : ℕ). i < n) (vec .size) h)))
 
 -- ---- 16 and 15

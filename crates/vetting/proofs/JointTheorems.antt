@@ -13,9 +13,9 @@ use Rattle.refusals.proofs.Orders.{first-decides, first-accepts, rest-decides, 
 use Rattle.lists.specs.Sums.{howMany}
 use Rattle.lists.proofs.Sums.{sum-zero}
 use Rattle.lists.proofs.BitLaws.{bit-above}
-use Rattle.secrecy.specs.Model.{inCoalition}
-use Rattle.secrecy.specs.Leaks.{JointLeak}
-use Rattle.secrecy.proofs.PairLeaks.{two-clusters-leak}
+use Rattle.secrecy.specs.Model.{inCoalition, inEither, setView}
+use Rattle.secrecy.specs.Leaks.{longest, keysShowing, Symbols, Agree, JointLeak}
+use Rattle.secrecy.proofs.PairLeaks.{joint-equal-numbers, two-clusters-leak}
 use Rattle.plans.specs.declared.Plan.{Plan}
 use Rattle.plans.specs.Plans.{usersOf, tableChecks}
 use Rattle.vetting.specs.declared.Joint.{Joint}
@@ -101,6 +101,24 @@ module _ (P : Plan) (K : List ℕ) (a b : ℕ) where
 
   pub accepted-vet : accepted ≡ jointCode P K (Relays a b) → accepted ≡ vetCode P K
   accepted-vet e = first-accepts (vetChecks P K) joint (vet-numbered P K) (e ∙ fit-parts (accepted-fits e))
+
+  -- and leaks with no coalition
+  pub accepted-pair-quiet : accepted ≡ jointCode P K (Relays a b) → (g : ℕ) → g < 2 ^ usersOf P → howMany (usersOf P) (inCoalition g) ≤ P .limit
+      → ¬ (JointLeak (poolOf P K) (a - 1) (b - 1) g)
+  accepted-pair-quiet e g users few leak =
+      let z : _≡_ {A = ℕ} 0 19
+      = ap (λ (d : Code). d .number) e ∙ joint-iff P K a b (accepted-vet e) (accepted-fits e) .1 (g, users, few, leak) in
+      absurd (omega arith)
+
+  -- so that readings that agree on the coalition have equal numbers
+  pub accepted-pair-equal : accepted ≡ jointCode P K (Relays a b) → (g : ℕ) → g < 2 ^ usersOf P → howMany (usersOf P) (inCoalition g) ≤ P .limit
+      → (L : ℕ) → 1 ≤ L → L ≤ longest
+      → (W W′ : List ℕ) → Symbols (P .q) (usersOf P) L W → Symbols (P .q) (usersOf P) L W′ → Agree (poolOf P K) g L W W′ → (s : List ℕ)
+      → keysShowing (P .q) (P .rate) (setView (poolOf P K) (inEither (poolOf P K) (a - 1) (b - 1)) g) L W s
+      ≡ keysShowing (P .q) (P .rate) (setView (poolOf P K) (inEither (poolOf P K) (a - 1) (b - 1)) g) L W′ s
+  accepted-pair-equal e g users few =
+      let c = checked P K (accepted-checked P K (accepted-vet e)) in
+      joint-equal-numbers (poolOf P K) (c .prime) (c .valid) (a - 1) (b - 1) g (accepted-pair-quiet e g users few)
 
   pub accepted-count : accepted ≡ jointCode P K (Relays a b) → jointLooked P K (Relays a b) ≡ lookedAt P K
   accepted-count e =
