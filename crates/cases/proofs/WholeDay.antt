@@ -1,11 +1,12 @@
 -- Request Q-12 at the small pool: a day of relay 1 and one of the server, of two rounds, with what is seen of each; and days that differ and may not be told
--- apart.
+-- apart. Then a day of signed readings, at a pool whose q leaves room for a cap.
 use Prim.Native.Nat.{ℕ, zero, suc, _+_, _<_}
 use mathlib.Core.Path.{_≡_, refl, sym}
 use mathlib.Core.Bool.{Bool}
-use mathlib.Core.List.{List, [], _∷_}
+use mathlib.Core.List.{List, [], _∷_, map}
 use native.Mathlib.Omega.{arith}
 use lib.Dec.{T}
+use lib.IntN.{ℤ, pos, negsuc}
 use lib.ListN.{length}
 use Rattle.refusals.specs.Codes.{code, accepted}
 use Rattle.lists.specs.Bits.{hasBit}
@@ -13,20 +14,27 @@ use Rattle.lists.specs.Lists.{tab, joinTo, picked}
 use Rattle.lists.specs.Search.{allTo}
 use Rattle.lists.specs.Sums.{sumTo, howMany}
 use Rattle.residues.specs.Primes.{isPrime, allBelow}
+use Rattle.residues.specs.Field.{inverseBelow}
 use Rattle.residues.proofs.PrimeLaws.{below-at}
-use Rattle.matrices.specs.Linear.{Vector}
-use Rattle.secrecy.specs.Model.{Pool, inCoalition, reading, key, upload, total, blocks, known, view}
+use Rattle.matrices.specs.Tables.{pivotOf, scaled, fused, cleared, eachRow, eliminatedFrom, pivotsFrom}
+use Rattle.secrecy.specs.Model.{Pool, columnSum, inCoalition, reading, key, upload, total, blocks, known, view}
 use Rattle.secrecy.specs.Leaks.{Symbols, Agree, ServerAgree}
 use Rattle.plans.specs.Plans.{plan}
 use Rattle.vetting.specs.Pools.{poolOf}
-use Rattle.vetting.specs.Walk.{InWalk}
+use Rattle.vetting.specs.Walk.{pairsWith, observers}
+use Rattle.vetting.specs.Vet.{vetCode}
+use Rattle.vetting.specs.Walking.{clusterSum, baseTable, membersFrom, reducedBy, dependent, outsiderMask, testedMask, firstHit}
+use Rattle.vetting.proofs.VetLaws.{walk-code}
 use Rattle.rounds.specs.Ledger.{frame, named, bitsOf, countedAt}
 use Rattle.rounds.specs.Relays.{heard, moves, asks}
-use Rattle.days.specs.Runs.{Run, Lengths, seenOf, sentIn, DaysAgree}
-use Rattle.days.specs.Machines.{Entry, sends, calls, Transcript, replies}
+use Rattle.signed.specs.Numbers.{symbolOf, signedReading}
+use Rattle.signed.specs.Caps.{allInCap}
+use Rattle.signed.specs.SignedLeaks.{SignedAgree, Capped}
+use Rattle.days.specs.Runs.{Run, Lengths, seenOf, sentIn, ServerAgreeModulo}
+use Rattle.days.specs.Machines.{Entry, sends, calls, replies}
 use Rattle.days.specs.Observers.{RelayCall, opens, event, ServerCall, begins, counts, gives, machineOf}
-use Rattle.days.specs.Days.{DayView, dayView, runsShowing}
-use Rattle.demands.proofs.WholeDay.{equal-days}
+use Rattle.days.specs.Days.{DayView, dayView, signedDayView, runsShowing}
+use Rattle.demands.proofs.WholeDay.{equal-days, signed-equal-days}
 use Rattle.cases.proofs.SmallPool.{rows, accepts}
 
 abbrev pool : Pool
@@ -240,5 +248,64 @@ server-alike test =
       symbols′ = each-round (λ k. Symbols 5 4 1 (others k)) (symbols-of (others 0) refl tt) (symbols-of (others 1) refl tt);
       same = each-round (λ k. ServerAgree pool 8 1 (readings k) (others k)) (totals-same (readings 0) (others 0) refl refl)
           (totals-same (readings 1) (others 1) refl refl);
+    })
+    .1
+
+-- ---- signed readings: two relays of one user each, q 17 and cap 4
+
+abbrev signed-pool : Pool
+signed-pool = poolOf (plan 2 1 0 1 17) (1 ∷ 16 ∷ [])
+
+signed-accepts : vetCode (plan 2 1 0 1 17) (1 ∷ 16 ∷ []) ≡ accepted
+unfolding isPrime allTo allBelow columnSum sumTo tab pairsWith observers picked joinTo howMany hasBit firstHit dependent baseTable clusterSum membersFrom
+    reducedBy outsiderMask testedMask pivotOf scaled fused cleared eachRow eliminatedFrom pivotsFrom inverseBelow
+signed-accepts = sym (walk-code (plan 2 1 0 1 17) (1 ∷ 16 ∷ []) refl)
+
+-- −3 and 4 in round 7, −4 and −4 in round 8; and a day with the same totals
+abbrev signed-readings : ℕ → List ℤ
+signed-readings zero = negsuc 2 ∷ pos 4 ∷ []
+signed-readings (suc k) = negsuc 3 ∷ negsuc 3 ∷ []
+
+abbrev signed-others : ℕ → List ℤ
+signed-others zero = pos 0 ∷ pos 1 ∷ []
+signed-others (suc k) = negsuc 3 ∷ negsuc 3 ∷ []
+
+-- under the source symbols 5 and 1 the server hears 2 and 16, and then 14 and 12: the totals 1 and 9, which are shown as 1 and −8
+pub signed-day : signedDayView (plan 2 1 0 1 17) (1 ∷ 16 ∷ []) 4 run 0
+    (calls (begins 7 1) ∷ sends 0 1 ∷ sends 0 2 ∷ calls (gives (0 ∷ [])) ∷ calls (begins 8 1) ∷ sends 1 2 ∷ sends 1 1 ∷ calls (gives (0 ∷ [])) ∷ [])
+    (known signed-pool 0) signed-readings (5 ∷ 1 ∷ []) .1 .told
+    ≡ (accepted, []) ∷ (accepted, []) ∷ (accepted, []) ∷ (accepted, 1 ∷ []) ∷ (accepted, []) ∷ (accepted, []) ∷ (accepted, []) ∷ (accepted, 9 ∷ []) ∷ []
+unfolding replies sentIn key sumTo tab isPrime allBelow allTo hasBit named bitsOf countedAt
+signed-day = refl
+
+nobody : (L : ℕ) (R R′ : List ℤ) → SignedAgree signed-pool 0 L R R′
+unfolding hasBit
+nobody L R R′ = record { members = go }
+  where
+    go : (i p : ℕ) → i < 2 → T (inCoalition 0 i) → p < L → signedReading L R i p ≡ signedReading L R′ i p
+    go zero p h t l = absurd t
+    go (suc zero) p h t l = absurd t
+    go (suc (suc i)) p h t l = absurd (omega arith)
+
+signed-same : (R R′ : List ℤ) → total signed-pool 1 (map (symbolOf 17) R) 0 ≡ total signed-pool 1 (map (symbolOf 17) R′) 0
+    → ServerAgreeModulo signed-pool 0 1 R R′
+signed-same R R′ e = record { coalition = nobody 1 R R′; totals = go }
+  where
+    go : (p : ℕ) → p < 1 → total signed-pool 1 (map (symbolOf 17) R) p ≡ total signed-pool 1 (map (symbolOf 17) R′) p
+    go zero l = e
+    go (suc p) l = absurd (omega arith)
+
+pub signed-alike : (schedule : List (Entry ServerCall)) (test : DayView (machineOf signed-pool 0) → Bool)
+    → runsShowing signed-pool run (signedDayView (plan 2 1 0 1 17) (1 ∷ 16 ∷ []) 4 run 0 schedule (view signed-pool 0 0) signed-readings) test
+    ≡ runsShowing signed-pool run (signedDayView (plan 2 1 0 1 17) (1 ∷ 16 ∷ []) 4 run 0 schedule (view signed-pool 0 0) signed-others) test
+unfolding allInCap reading total howMany sumTo hasBit
+signed-alike schedule test =
+    signed-equal-days (plan 2 1 0 1 17) (1 ∷ 16 ∷ []) 4 refl (sym signed-accepts) 0 0
+    (record { users = omega arith; few = omega arith; observer = omega arith }) run lengths schedule test signed-readings signed-others
+    (record {
+      capped = each-round (λ k. Capped signed-pool 4 1 (signed-readings k)) (record { size = refl; inside = tt }) (record { size = refl; inside = tt });
+      capped′ = each-round (λ k. Capped signed-pool 4 1 (signed-others k)) (record { size = refl; inside = tt }) (record { size = refl; inside = tt });
+      same = each-round (λ k. ServerAgreeModulo signed-pool 0 1 (signed-readings k) (signed-others k)) (signed-same (signed-readings 0) (signed-others 0) refl)
+          (signed-same (signed-readings 1) (signed-others 1) refl);
     })
     .1
