@@ -29,8 +29,8 @@ use Rattle.rounds.specs.Ledger.{frame, named, bitsOf, countedAt}
 use Rattle.rounds.specs.Relays.{heard, moves, asks}
 use Rattle.signed.specs.Numbers.{symbolOf, signedReading}
 use Rattle.signed.specs.Caps.{allInCap}
-use Rattle.signed.specs.SignedLeaks.{SignedAgree, Capped}
-use Rattle.days.specs.Runs.{Run, Lengths, seenOf, sentIn, ServerAgreeModulo}
+use Rattle.signed.specs.SignedLeaks.{SignedAgree, SignedServerAgree, Capped}
+use Rattle.days.specs.Runs.{Run, Lengths, seenOf, sentIn}
 use Rattle.days.specs.Machines.{Entry, sends, calls, replies}
 use Rattle.days.specs.Observers.{RelayCall, opens, event, ServerCall, begins, counts, gives, machineOf}
 use Rattle.days.specs.Days.{DayView, dayView, signedDayView, runsShowing}
@@ -271,7 +271,7 @@ signed-others zero = pos 0 ∷ pos 1 ∷ []
 signed-others (suc k) = negsuc 3 ∷ negsuc 3 ∷ []
 
 -- under the source symbols 5 and 1 the server hears 2 and 16, and then 14 and 12: the totals 1 and 9, which are shown as 1 and −8
-pub signed-day : signedDayView (plan 2 1 0 1 17) (1 ∷ 16 ∷ []) 4 run 0
+pub signed-day : signedDayView (plan 2 1 0 1 17) (1 ∷ 16 ∷ []) run 0
     (calls (begins 7 1) ∷ sends 0 1 ∷ sends 0 2 ∷ calls (gives (0 ∷ [])) ∷ calls (begins 8 1) ∷ sends 1 2 ∷ sends 1 1 ∷ calls (gives (0 ∷ [])) ∷ [])
     (known signed-pool 0) signed-readings (5 ∷ 1 ∷ []) .1 .told
     ≡ (accepted, []) ∷ (accepted, []) ∷ (accepted, []) ∷ (accepted, 1 ∷ []) ∷ (accepted, []) ∷ (accepted, []) ∷ (accepted, []) ∷ (accepted, 9 ∷ []) ∷ []
@@ -288,7 +288,7 @@ nobody L R R′ = record { members = go }
     go (suc (suc i)) p h t l = absurd (omega arith)
 
 signed-same : (R R′ : List ℤ) → total signed-pool 1 (map (symbolOf 17) R) 0 ≡ total signed-pool 1 (map (symbolOf 17) R′) 0
-    → ServerAgreeModulo signed-pool 0 1 R R′
+    → SignedServerAgree signed-pool 0 1 R R′
 signed-same R R′ e = record { coalition = nobody 1 R R′; totals = go }
   where
     go : (p : ℕ) → p < 1 → total signed-pool 1 (map (symbolOf 17) R) p ≡ total signed-pool 1 (map (symbolOf 17) R′) p
@@ -296,8 +296,8 @@ signed-same R R′ e = record { coalition = nobody 1 R R′; totals = go }
     go (suc p) l = absurd (omega arith)
 
 pub signed-alike : (schedule : List (Entry ServerCall)) (test : DayView (machineOf signed-pool 0) → Bool)
-    → runsShowing signed-pool run (signedDayView (plan 2 1 0 1 17) (1 ∷ 16 ∷ []) 4 run 0 schedule (view signed-pool 0 0) signed-readings) test
-    ≡ runsShowing signed-pool run (signedDayView (plan 2 1 0 1 17) (1 ∷ 16 ∷ []) 4 run 0 schedule (view signed-pool 0 0) signed-others) test
+    → runsShowing signed-pool run (signedDayView (plan 2 1 0 1 17) (1 ∷ 16 ∷ []) run 0 schedule (view signed-pool 0 0) signed-readings) test
+    ≡ runsShowing signed-pool run (signedDayView (plan 2 1 0 1 17) (1 ∷ 16 ∷ []) run 0 schedule (view signed-pool 0 0) signed-others) test
 unfolding allInCap reading total howMany sumTo hasBit
 signed-alike schedule test =
     signed-equal-days (plan 2 1 0 1 17) (1 ∷ 16 ∷ []) 4 refl (sym signed-accepts) 0 0
@@ -305,7 +305,7 @@ signed-alike schedule test =
     (record {
       capped = each-round (λ k. Capped signed-pool 4 1 (signed-readings k)) (record { size = refl; inside = tt }) (record { size = refl; inside = tt });
       capped′ = each-round (λ k. Capped signed-pool 4 1 (signed-others k)) (record { size = refl; inside = tt }) (record { size = refl; inside = tt });
-      same = each-round (λ k. ServerAgreeModulo signed-pool 0 1 (signed-readings k) (signed-others k)) (signed-same (signed-readings 0) (signed-others 0) refl)
+      same = each-round (λ k. SignedServerAgree signed-pool 0 1 (signed-readings k) (signed-others k)) (signed-same (signed-readings 0) (signed-others 0) refl)
           (signed-same (signed-readings 1) (signed-others 1) refl);
     })
     .1

@@ -33,13 +33,13 @@ use Rattle.vetting.proofs.JointTheorems.{accepted-fits, accepted-vet, accepted-
 use Rattle.rounds.specs.Rounds.{oneOf}
 use Rattle.signed.specs.Numbers.{symbolOf}
 use Rattle.signed.specs.Caps.{capFits}
-use Rattle.signed.specs.SignedLeaks.{SignedAgree, Capped}
+use Rattle.signed.specs.SignedLeaks.{SignedAgree, SignedAgrees, Capped}
 use Rattle.signed.proofs.CapLaws.{cap-known}
 use Rattle.signed.proofs.SignedLaws.{symbols-vector}
-use Rattle.signed.proofs.Secrecy.{members-alike}
+use Rattle.signed.proofs.Secrecy.{members-alike, agrees-alike}
 use Rattle.signed.proofs.Uploads.{signed-uploads-are}
 use Rattle.days.specs.Runs.{Run, Lengths, sourceKey, seenOf, uploadsOf, senders, sent, sentIn, DaysAgree}
-use Rattle.days.specs.Runs.{travelling, signedUploadsOf, AgreeModulo, SignedDaysAgree}
+use Rattle.days.specs.Runs.{dayTravelling, signedUploadsOf, SignedDaysAgree}
 use Rattle.days.specs.Machines.{Entry, transcript}
 use Rattle.days.specs.Observers.{RelayCall, relayMachine, machineOf}
 use Rattle.days.specs.Days.{DayView, dayView, signedDayView, JointDay, jointDay, signedJointDay, runsShowing}
@@ -71,32 +71,32 @@ module _ (P : Plan) (K : List ℕ) where
 
   -- ---- signed readings: what is sent is what is sent of them as they travel
 
-  module _ (m : ℕ) (pos : 0 < P .q) (run : Run) (R : ℕ → List ℤ) (size : (k : ℕ) → k < run .rounds → length (R k) ≡ usersOf P * run .length k) where
+  module _ (pos : 0 < P .q) (run : Run) (R : ℕ → List ℤ) (size : (k : ℕ) → k < run .rounds → length (R k) ≡ usersOf P * run .length k) where
     abbrev W : ℕ → List ℕ
-    W = travelling (P .q) R
+    W = dayTravelling (P .q) R
 
-    upload-travels : (N : List ℕ) (k : ℕ) → k < run .rounds → (i : ℕ) → i < usersOf P → signedUploadsOf P K m run R N k i ≡ uploadsOf pool run W N k i
+    upload-travels : (N : List ℕ) (k : ℕ) → k < run .rounds → (i : ℕ) → i < usersOf P → signedUploadsOf P K run R N k i ≡ uploadsOf pool run W N k i
     upload-travels N k l = signed-uploads-are pool pos (run .length k) (R k) (sourceKey pool run N k) (size k l)
 
     sent-travels : (w : ℕ) → w ≤ P .clusters → (N : List ℕ) (k : ℕ) → k < run .rounds → (s : ℕ) → T (oneOf (senders pool w) s)
-        → sent pool (run .length k) (signedUploadsOf P K m run R N k) w s ≡ sent pool (run .length k) (uploadsOf pool run W N k) w s
+        → sent pool (run .length k) (signedUploadsOf P K run R N k) w s ≡ sent pool (run .length k) (uploadsOf pool run W N k) w s
     sent-travels zero h N k l s t =
         let u : ℕ = s - 1 in
-        tab-cong (run .length k) (λ p. sumTo (P .size) (λ v. at (signedUploadsOf P K m run R N k (u * P .size + v)) p) % P .q)
+        tab-cong (run .length k) (λ p. sumTo (P .size) (λ v. at (signedUploadsOf P K run R N k (u * P .size + v)) p) % P .q)
         (λ p. sumTo (P .size) (λ v. at (uploadsOf pool run W N k (u * P .size + v)) p) % P .q)
         (λ p _.
         ap (λ (z : ℕ). z % P .q)
-        (sum-cong (P .size) (λ v. at (signedUploadsOf P K m run R N k (u * P .size + v)) p) (λ v. at (uploadsOf pool run W N k (u * P .size + v)) p)
+        (sum-cong (P .size) (λ v. at (signedUploadsOf P K run R N k (u * P .size + v)) p) (λ v. at (uploadsOf pool run W N k (u * P .size + v)) p)
         (λ v c. ap (λ (b : List ℕ). at b p) (upload-travels N k l (u * P .size + v) (digits-lt (one-of (P .clusters) s t) c)))))
     sent-travels (suc u) h N k l s t = upload-travels N k l (u * P .size + (s - 1)) (digits-lt h (one-of (P .size) s t))
 
     sent-in-travels : (w : ℕ) → w ≤ P .clusters → (N : List ℕ) (k s : ℕ)
-        → sentIn pool run (signedUploadsOf P K m run R N) w k s ≡ sentIn pool run (uploadsOf pool run W N) w k s
+        → sentIn pool run (signedUploadsOf P K run R N) w k s ≡ sentIn pool run (uploadsOf pool run W N) w k s
     unfolding sentIn
     sent-in-travels w h N k s = go (ltb k (run .rounds) && oneOf (senders pool w) s) refl
       where
         go : (t : Bool) → (ltb k (run .rounds) && oneOf (senders pool w) s) ≡ t
-            → cond t (sent pool (run .length k) (signedUploadsOf P K m run R N k) w s) []
+            → cond t (sent pool (run .length k) (signedUploadsOf P K run R N k) w s) []
             ≡ cond t (sent pool (run .length k) (uploadsOf pool run W N k) w s) []
         go true e =
             let (l, o) = T-and (ltb k (run .rounds)) (oneOf (senders pool w) s) (true→T (ltb k (run .rounds) && oneOf (senders pool w) s) e) in
@@ -104,7 +104,7 @@ module _ (P : Plan) (K : List ℕ) where
         go false e = refl
 
     pub day-travels : (w : ℕ) → w ≤ P .clusters → (schedule : List (Entry (machineOf pool w .Call))) (see : ℕ → List ℕ → List ℕ → List ℕ) (N : List ℕ)
-        → signedDayView P K m run w schedule see R N ≡ dayView pool run w schedule see W N
+        → signedDayView P K run w schedule see R N ≡ dayView pool run w schedule see W N
     day-travels w h schedule see N =
         ap (λ (B : ℕ → ℕ → List ℕ). (seenOf pool run see W N, transcript (machineOf pool w) (run .number) B schedule))
         (λ i k s. sent-in-travels w h N k s i)
@@ -113,17 +113,16 @@ module _ (P : Plan) (K : List ℕ) where
   module _ (m : ℕ) (cap : capFits P m ≡ true) (e : accepted ≡ vetCode P K) (g : ℕ) (run : Run) (R R′ : ℕ → List ℤ) where
     members-travel : (L : ℕ) (S S′ : List ℤ) → Capped pool m L S → Capped pool m L S′ → SignedAgree pool g L S S′
         → Agree pool g L (map (symbolOf (P .q)) S) (map (symbolOf (P .q)) S′)
-    members-travel L S S′ c c′ = members-alike pool m (vetted P K e .prime) (cap-known P m cap) L S S′ c c′ g .0
+    members-travel L S S′ c c′ = members-alike pool m (cap-known P m cap) L S S′ c c′ g .0
 
-    totals-travel : (w L : ℕ) (S S′ : List ℤ) → Capped pool m L S → Capped pool m L S′ → AgreeModulo pool g w L S S′
+    totals-travel : (w L : ℕ) (S S′ : List ℤ) → Capped pool m L S → Capped pool m L S′ → SignedAgrees pool g w L S S′
         → Agrees pool g w L (map (symbolOf (P .q)) S) (map (symbolOf (P .q)) S′)
-    totals-travel zero L S S′ c c′ b = record { coalition = members-travel L S S′ c c′ (b .coalition); totals = b .totals }
-    totals-travel (suc u) L S S′ c c′ b = members-travel L S S′ c c′ b
+    totals-travel w L S S′ c c′ = agrees-alike pool m (cap-known P m cap) L S S′ c c′ g w .0
 
     days-travel : (signed : ℕ → List ℤ → List ℤ → Type 0) (agrees : ℕ → List ℕ → List ℕ → Type 0)
         → ((L : ℕ) (S S′ : List ℤ) → Capped pool m L S → Capped pool m L S′ → signed L S S′
         → agrees L (map (symbolOf (P .q)) S) (map (symbolOf (P .q)) S′))
-        → SignedDaysAgree pool run m signed R R′ → DaysAgree pool run agrees (travelling (P .q) R) (travelling (P .q) R′)
+        → SignedDaysAgree pool run m signed R R′ → DaysAgree pool run agrees (dayTravelling (P .q) R) (dayTravelling (P .q) R′)
     days-travel signed agrees travels a =
         let pos : 0 < P .q = prime-pos (vetted P K e .prime) in
         record {
@@ -136,8 +135,8 @@ module _ (P : Plan) (K : List ℕ) where
     days-back : {A : Type 0} (signed : ℕ → List ℤ → List ℤ → Type 0) → SignedDaysAgree pool run m signed R R′
         → (day : (ℕ → List ℤ) → List ℕ → A) (travelled : (ℕ → List ℕ) → List ℕ → A) (test : A → Bool)
         → ((S : ℕ → List ℤ) → ((k : ℕ) → k < run .rounds → length (S k) ≡ usersOf P * run .length k)
-        → (N : List ℕ) → day S N ≡ travelled (travelling (P .q) S) N)
-        → runsShowing pool run (travelled (travelling (P .q) R)) test ≡ runsShowing pool run (travelled (travelling (P .q) R′)) test
+        → (N : List ℕ) → day S N ≡ travelled (dayTravelling (P .q) S) N)
+        → runsShowing pool run (travelled (dayTravelling (P .q) R)) test ≡ runsShowing pool run (travelled (dayTravelling (P .q) R′)) test
         → runsShowing pool run (day R) test ≡ runsShowing pool run (day R′) test
     days-back {A} signed a day travelled test is x =
         ap (λ (see : List ℕ → A). runsShowing pool run see test) (λ i N. is R (λ k l. a .capped k l .size) N i)
@@ -146,22 +145,22 @@ module _ (P : Plan) (K : List ℕ) where
 
   module _ (m : ℕ) (cap : capFits P m ≡ true) (e : accepted ≡ vetCode P K) (g w : ℕ) (i : InWalk P g w) (run : Run) (lengths : Lengths run)
       (schedule : List (Entry (machineOf pool w .Call))) (test : DayView (machineOf pool w) → Bool) (R R′ : ℕ → List ℤ)
-      (a : SignedDaysAgree pool run m (AgreeModulo pool g w) R R′) where
+      (a : SignedDaysAgree pool run m (SignedAgrees pool g w) R R′) where
     back : (see : ℕ → List ℕ → List ℕ → List ℕ)
-        → runsShowing pool run (dayView pool run w schedule see (travelling (P .q) R)) test
-        ≡ runsShowing pool run (dayView pool run w schedule see (travelling (P .q) R′)) test
-        → runsShowing pool run (signedDayView P K m run w schedule see R) test ≡ runsShowing pool run (signedDayView P K m run w schedule see R′) test
+        → runsShowing pool run (dayView pool run w schedule see (dayTravelling (P .q) R)) test
+        ≡ runsShowing pool run (dayView pool run w schedule see (dayTravelling (P .q) R′)) test
+        → runsShowing pool run (signedDayView P K run w schedule see R) test ≡ runsShowing pool run (signedDayView P K run w schedule see R′) test
     back see =
-        days-back m cap e g run R R′ (AgreeModulo pool g w) a (signedDayView P K m run w schedule see) (dayView pool run w schedule see) test
-        (λ S size N. day-travels m (prime-pos (vetted P K e .prime)) run S size w (i .observer) schedule see N)
+        days-back m cap e g run R R′ (SignedAgrees pool g w) a (signedDayView P K run w schedule see) (dayView pool run w schedule see) test
+        (λ S size N. day-travels (prime-pos (vetted P K e .prime)) run S size w (i .observer) schedule see N)
 
-    pub signed-equal-days : (runsShowing pool run (signedDayView P K m run w schedule (known pool g) R) test
-        ≡ runsShowing pool run (signedDayView P K m run w schedule (known pool g) R′) test)
-        × (runsShowing pool run (signedDayView P K m run w schedule (view pool g w) R) test
-        ≡ runsShowing pool run (signedDayView P K m run w schedule (view pool g w) R′) test)
+    pub signed-equal-days : (runsShowing pool run (signedDayView P K run w schedule (known pool g) R) test
+        ≡ runsShowing pool run (signedDayView P K run w schedule (known pool g) R′) test)
+        × (runsShowing pool run (signedDayView P K run w schedule (view pool g w) R) test
+        ≡ runsShowing pool run (signedDayView P K run w schedule (view pool g w) R′) test)
     signed-equal-days =
-        let (received, whole) = equal-days e g w i run lengths schedule test (travelling (P .q) R) (travelling (P .q) R′)
-        (days-travel m cap e g run R R′ (AgreeModulo pool g w) (Agrees pool g w) (totals-travel m cap e g run R R′ w) a) in
+        let (received, whole) = equal-days e g w i run lengths schedule test (dayTravelling (P .q) R) (dayTravelling (P .q) R′)
+        (days-travel m cap e g run R R′ (SignedAgrees pool g w) (Agrees pool g w) (totals-travel m cap e g run R R′ w) a) in
         (back (known pool g) received, back (view pool g w) whole)
 
   -- ---- two relays under one lock
@@ -238,18 +237,18 @@ module _ (P : Plan) (K : List ℕ) where
     -- and of readings as they are signed
     pub signed-joint-equal-days : (m : ℕ) → capFits P m ≡ true → (R R′ : ℕ → List ℤ) → SignedDaysAgree pool run m (SignedAgree pool g) R R′
         → (test : JointDay pool a b → Bool)
-        → runsShowing pool run (signedJointDay P K m run a b first second g R) test ≡ runsShowing pool run (signedJointDay P K m run a b first second g R′) test
+        → runsShowing pool run (signedJointDay P K run a b first second g R) test ≡ runsShowing pool run (signedJointDay P K run a b first second g R′) test
     signed-joint-equal-days m cap R R′ d test =
         let v : accepted ≡ vetCode P K = accepted-vet P K a b e in
         let pos : 0 < P .q = prime-pos (vetted P K v .prime) in
         let (low, less, high) = fits in
-        days-back m cap v g run R R′ (SignedAgree pool g) d (signedJointDay P K m run a b first second g) (jointDay pool run a b first second g) test
+        days-back m cap v g run R R′ (SignedAgree pool g) d (signedJointDay P K run a b first second g) (jointDay pool run a b first second g) test
         (λ S size N i. (
-          seenOf pool run joint (travelling (P .q) S) N,
+          seenOf pool run joint (dayTravelling (P .q) S) N,
           (
-            transcript (relayMachine pool a) (run .number) (λ k s. sent-in-travels m pos run S size a (omega arith) N k s i) first,
-            transcript (relayMachine pool b) (run .number) (λ k s. sent-in-travels m pos run S size b high N k s i) second,
+            transcript (relayMachine pool a) (run .number) (λ k s. sent-in-travels pos run S size a (omega arith) N k s i) first,
+            transcript (relayMachine pool b) (run .number) (λ k s. sent-in-travels pos run S size b high N k s i) second,
           ),
         ))
-        (joint-equal-days (travelling (P .q) R) (travelling (P .q) R′)
+        (joint-equal-days (dayTravelling (P .q) R) (dayTravelling (P .q) R′)
         (days-travel m cap v g run R R′ (SignedAgree pool g) (Agree pool g) (members-travel m cap v g run R R′) d) test)

@@ -38,15 +38,15 @@ module _ (P : Pool) (pos : 0 < P .q) (run : Run) (w : ℕ) (schedule : List (Ent
   outline-fixed W W′ N N′ =
       blocks-fixed (uploadsOf P run W N) (uploadsOf P run W′ N′) (uploads-blocks P pos run W N) (uploads-blocks P pos run W′ N′)
 
-pub signed-outline-fixed : (P : Plan) (K : List ℕ) (m : ℕ) → 0 < P .q → (run : Run) (w : ℕ) (schedule : List (Entry (machineOf (poolOf P K) w .Call)))
+pub signed-outline-fixed : (P : Plan) (K : List ℕ) → 0 < P .q → (run : Run) (w : ℕ) (schedule : List (Entry (machineOf (poolOf P K) w .Call)))
     → (R R′ : ℕ → List ℤ) (N N′ : List ℕ)
     → outlineOf (machineOf (poolOf P K) w)
-    (transcript (machineOf (poolOf P K) w) (run .number) (sentIn (poolOf P K) run (signedUploadsOf P K m run R N) w) schedule)
+    (transcript (machineOf (poolOf P K) w) (run .number) (sentIn (poolOf P K) run (signedUploadsOf P K run R N) w) schedule)
     ≡ outlineOf (machineOf (poolOf P K) w)
-    (transcript (machineOf (poolOf P K) w) (run .number) (sentIn (poolOf P K) run (signedUploadsOf P K m run R′ N′) w) schedule)
-signed-outline-fixed P K m pos run w schedule R R′ N N′ =
-    blocks-fixed (poolOf P K) pos run w schedule (signedUploadsOf P K m run R N) (signedUploadsOf P K m run R′ N′) (signed-blocks P K m run pos R N)
-    (signed-blocks P K m run pos R′ N′)
+    (transcript (machineOf (poolOf P K) w) (run .number) (sentIn (poolOf P K) run (signedUploadsOf P K run R′ N′) w) schedule)
+signed-outline-fixed P K pos run w schedule R R′ N N′ =
+    blocks-fixed (poolOf P K) pos run w schedule (signedUploadsOf P K run R N) (signedUploadsOf P K run R′ N′) (signed-blocks P K run pos R N)
+    (signed-blocks P K run pos R′ N′)
 
 -- ---- calls, one after the other
 

@@ -106,8 +106,8 @@ module _ (P : Pool) (pos : 0 < P .q) (run : Run) where
       go false = record { sender = refl; number = refl; long = refl; below = refl }
 
 -- so are signed uploads
-pub signed-blocks : (P : Plan) (K : List ℕ) (m : ℕ) (run : Run) → 0 < P .q → (R : ℕ → List ℤ) (N : List ℕ)
-    → Blocks (poolOf P K) run (signedUploadsOf P K m run R N)
-signed-blocks P K m run pos R N k i =
+pub signed-blocks : (P : Plan) (K : List ℕ) (run : Run) → 0 < P .q → (R : ℕ → List ℤ) (N : List ℕ)
+    → Blocks (poolOf P K) run (signedUploadsOf P K run R N)
+signed-blocks P K run pos R N k i =
     let L : ℕ = run .length k in
     upload-vector (P .q) L (map (symbolOf (P .q)) (take L (drop (i * L) (R k)))) (tab L (key (poolOf P K) (sourceKey (poolOf P K) run N k) i)) pos

@@ -10,7 +10,7 @@ use Rattle.secrecy.specs.Counts.{count}
 use Rattle.secrecy.specs.Model.{Pool, inEither, setView}
 use Rattle.plans.specs.declared.Plan.{Plan}
 use Rattle.vetting.specs.Pools.{poolOf}
-use Rattle.days.specs.Runs.{Run, runSymbols, seenOf, uploadsOf, sentIn, travelling, signedUploadsOf}
+use Rattle.days.specs.Runs.{Run, runSymbols, seenOf, uploadsOf, sentIn, dayTravelling, signedUploadsOf}
 use Rattle.days.specs.Machines.{Machine, Entry, Transcript, transcript}
 use Rattle.days.specs.Observers.{RelayCall, relayMachine, machineOf}
 
@@ -29,10 +29,10 @@ module _ (P : Pool) (run : Run) (w : ℕ) (schedule : List (Entry (machineOf P w
   dayView W N = dayOf W N (uploadsOf P run W N)
 
 -- the same under signed readings R: those of the coalition are seen as they travel
-abbrev pub signedDayView : (P : Plan) (K : List ℕ) (m : ℕ) (run : Run) (w : ℕ) → List (Entry (machineOf (poolOf P K) w .Call))
+abbrev pub signedDayView : (P : Plan) (K : List ℕ) (run : Run) (w : ℕ) → List (Entry (machineOf (poolOf P K) w .Call))
     → (ℕ → List ℕ → List ℕ → List ℕ) → (ℕ → List ℤ) → List ℕ → DayView (machineOf (poolOf P K) w)
-signedDayView P K m run w schedule see R N =
-    dayOf (poolOf P K) run w schedule see (travelling (P .q) R) N (signedUploadsOf P K m run R N)
+signedDayView P K run w schedule see R N =
+    dayOf (poolOf P K) run w schedule see (dayTravelling (P .q) R) N (signedUploadsOf P K run R N)
 
 -- relays a and b, from 1, under one lock: whoever opens it sees the days of both, that is, the joint view of each round and both transcripts
 abbrev pub JointDay : Pool → ℕ → ℕ → Type 0
@@ -52,10 +52,10 @@ module _ (P : Pool) (run : Run) (a b : ℕ) (first second : List (Entry RelayCal
   abbrev pub jointDay : (ℕ → List ℕ) → List ℕ → JointDay P a b
   jointDay W N = jointDayOf W N (uploadsOf P run W N)
 
-abbrev pub signedJointDay : (P : Plan) (K : List ℕ) (m : ℕ) (run : Run) (a b : ℕ) (first second : List (Entry RelayCall)) (g : ℕ)
+abbrev pub signedJointDay : (P : Plan) (K : List ℕ) (run : Run) (a b : ℕ) (first second : List (Entry RelayCall)) (g : ℕ)
     → (ℕ → List ℤ) → List ℕ → JointDay (poolOf P K) a b
-signedJointDay P K m run a b first second g R N =
-    jointDayOf (poolOf P K) run a b first second g (travelling (P .q) R) N (signedUploadsOf P K m run R N)
+signedJointDay P K run a b first second g R N =
+    jointDayOf (poolOf P K) run a b first second g (dayTravelling (P .q) R) N (signedUploadsOf P K run R N)
 
 -- how many runs of source keys show a view that passes a test
 unfoldable pub runsShowing : {A : Type 0} → (P : Pool) (run : Run) → (List ℕ → A) → (A → Bool) → ℕ

@@ -3,20 +3,20 @@
 use Prim.Native.Nat.{ℕ, zero, suc, _+_, _-_, _*_, _%_, _≤_, _<_}
 use mathlib.Core.Path.{_≡_}
 use mathlib.Core.Bool.{cond, _&&_}
-use mathlib.Core.List.{List, [], map}
+use mathlib.Core.List.{List, []}
 use lib.Dec.{ltb}
 use lib.IntN.{ℤ}
 use lib.ListN.{take, drop}
 use Rattle.lists.specs.Lists.{at, tab}
 use Rattle.lists.specs.Sums.{sumTo}
-use Rattle.secrecy.specs.Model.{Pool, users, key, upload, total}
+use Rattle.secrecy.specs.Model.{Pool, users, key, upload}
 use Rattle.secrecy.specs.Leaks.{longest, Symbols}
 use Rattle.plans.specs.declared.Plan.{Plan}
 use Rattle.vetting.specs.Pools.{poolOf}
 use Rattle.rounds.specs.Rounds.{oneOf}
-use Rattle.signed.specs.Numbers.{symbolOf}
+use Rattle.signed.specs.Numbers.{travelling}
 use Rattle.signed.specs.SignedBlocks.{signedUploadOf}
-use Rattle.signed.specs.SignedLeaks.{SignedAgree, Capped}
+use Rattle.signed.specs.SignedLeaks.{Capped}
 
 -- how many rounds; and of each its number and its block length
 pub record Run : Type 0 where
@@ -75,26 +75,17 @@ module _ (P : Pool) (run : Run) where
 
 -- ---- signed readings
 
--- as they travel
-abbrev pub travelling : ℕ → (ℕ → List ℤ) → ℕ → List ℕ
-travelling q R k = map (symbolOf q) (R k)
+-- those of each round as they travel
+abbrev pub dayTravelling : ℕ → (ℕ → List ℤ) → ℕ → List ℕ
+dayTravelling q R k = travelling q (R k)
 
--- the block that user i uploads in round k, of a plan P with key table K and cap m: of its L readings, under its key
-abbrev pub signedUploadsOf : (P : Plan) (K : List ℕ) (m : ℕ) (run : Run) → (ℕ → List ℤ) → List ℕ → ℕ → ℕ → List ℕ
-signedUploadsOf P K m run R N k i =
+-- the block that user i uploads in round k, of a plan P with key table K: of its L readings, under its key
+abbrev pub signedUploadsOf : (P : Plan) (K : List ℕ) (run : Run) → (ℕ → List ℤ) → List ℕ → ℕ → ℕ → List ℕ
+signedUploadsOf P K run R N k i =
     let L : ℕ = run .length k in
-    signedUploadOf P m L (take L (drop (i * L) (R k))) (tab L (key (poolOf P K) (sourceKey (poolOf P K) run N k) i))
+    signedUploadOf P L (take L (drop (i * L) (R k))) (tab L (key (poolOf P K) (sourceKey (poolOf P K) run N k) i))
 
 module _ (P : Pool) where
-  -- two sets of signed readings agree on the coalition's members and, for the server, on the totals modulo the prime
-  pub record ServerAgreeModulo (g L : ℕ) (R R′ : List ℤ) : Type 0 where
-    pub coalition : SignedAgree P g L R R′
-    pub totals : (p : ℕ) → p < L → total P L (map (symbolOf (P .q)) R) p ≡ total P L (map (symbolOf (P .q)) R′) p
-
-  abbrev pub AgreeModulo : ℕ → ℕ → ℕ → List ℤ → List ℤ → Type 0
-  AgreeModulo g zero = ServerAgreeModulo g
-  AgreeModulo g (suc u) = SignedAgree P g
-
   -- two days' signed readings, "none of them refused with 15", which are inside the cap m
   pub record SignedDaysAgree (run : Run) (m : ℕ) (agrees : ℕ → List ℤ → List ℤ → Type 0) (R R′ : ℕ → List ℤ) : Type 0 where
     pub capped : (k : ℕ) → k < run .rounds → Capped P m (run .length k) (R k)

@@ -28,7 +28,7 @@ module _ (P : Plan) (K : List ℕ) where
   outline-fixed pos g w run = Fixed.outline-fixed (poolOf P K) pos run w
 
   pub signed-outline-fixed : SignedOutlineFixed P K
-  signed-outline-fixed m pos g w run = Fixed.signed-outline-fixed P K m pos run w
+  signed-outline-fixed pos g w run = Fixed.signed-outline-fixed P K pos run w
 
 module _ (P : Pool) where
   pub relay-is-code : RelayIsCode P

@@ -22,8 +22,8 @@ use Rattle.rounds.specs.Ledger.{Frame}
 use Rattle.rounds.specs.Rounds.{serverRun, serverAnswers}
 use Rattle.rounds.specs.Relays.{Event, relayAnswers, relayRun}
 use Rattle.signed.specs.Caps.{capFits}
-use Rattle.signed.specs.SignedLeaks.{SignedAgree}
-use Rattle.days.specs.Runs.{Run, Lengths, keySymbols, runSymbols, sourceKey, DaysAgree, AgreeModulo, SignedDaysAgree}
+use Rattle.signed.specs.SignedLeaks.{SignedAgree, SignedAgrees}
+use Rattle.days.specs.Runs.{Run, Lengths, keySymbols, runSymbols, sourceKey, DaysAgree, SignedDaysAgree}
 use Rattle.days.specs.Machines.{Entry, replies, stateAfter, outlineOf}
 use Rattle.days.specs.Observers.{RelayCall, event, counts, relayMachine, serverMachine, machineOf}
 use Rattle.days.specs.Days.{DayView, dayView, signedDayView, JointDay, jointDay, signedJointDay, runsShowing, TestFor}
@@ -57,11 +57,11 @@ module _ (P : Plan) (K : List ℕ) where
       → (g w : ℕ) → InWalk P g w
       → (run : Run) → Lengths run
       → (schedule : List (Entry (machineOf pool w .Call))) (test : DayView (machineOf pool w) → Bool)
-      → (R R′ : ℕ → List ℤ) → SignedDaysAgree pool run m (AgreeModulo pool g w) R R′
-      → (runsShowing pool run (signedDayView P K m run w schedule (known pool g) R) test
-      ≡ runsShowing pool run (signedDayView P K m run w schedule (known pool g) R′) test)
-      × (runsShowing pool run (signedDayView P K m run w schedule (view pool g w) R) test
-      ≡ runsShowing pool run (signedDayView P K m run w schedule (view pool g w) R′) test)
+      → (R R′ : ℕ → List ℤ) → SignedDaysAgree pool run m (SignedAgrees pool g w) R R′
+      → (runsShowing pool run (signedDayView P K run w schedule (known pool g) R) test
+      ≡ runsShowing pool run (signedDayView P K run w schedule (known pool g) R′) test)
+      × (runsShowing pool run (signedDayView P K run w schedule (view pool g w) R) test
+      ≡ runsShowing pool run (signedDayView P K run w schedule (view pool g w) R′) test)
 
   -- of relays that share a cabinet (Q-9): whoever opens it sees both days; the readings agree on the coalition's members alone
   abbrev pub JointEqualDays : Type 0
@@ -78,8 +78,8 @@ module _ (P : Plan) (K : List ℕ) where
       → (run : Run) → Lengths run
       → (first second : List (Entry RelayCall))
       → (R R′ : ℕ → List ℤ) → SignedDaysAgree pool run m (SignedAgree pool g) R R′ → (test : JointDay pool a b → Bool)
-      → runsShowing pool run (signedJointDay P K m run a b first second g R) test
-      ≡ runsShowing pool run (signedJointDay P K m run a b first second g R′) test
+      → runsShowing pool run (signedJointDay P K run a b first second g R) test
+      ≡ runsShowing pool run (signedJointDay P K run a b first second g R′) test
 
   -- "The sight now includes the order of frames, sender and round numbers, resent frames and every refusal."; "None of these may depend on a reading inside its
   -- cap.": they are the same under all readings, inside a cap or not, and under all runs of source keys, of every plan with a q other than 0
@@ -91,9 +91,9 @@ module _ (P : Plan) (K : List ℕ) where
 
   abbrev pub SignedOutlineFixed : Type 0
   SignedOutlineFixed =
-      (m : ℕ) → 0 < P .q → (g w : ℕ) (run : Run) (schedule : List (Entry (machineOf pool w .Call))) (R R′ : ℕ → List ℤ) (N N′ : List ℕ)
-      → outlineOf (machineOf pool w) (signedDayView P K m run w schedule (known pool g) R N .1)
-      ≡ outlineOf (machineOf pool w) (signedDayView P K m run w schedule (known pool g) R′ N′ .1)
+      0 < P .q → (g w : ℕ) (run : Run) (schedule : List (Entry (machineOf pool w .Call))) (R R′ : ℕ → List ℤ) (N N′ : List ℕ)
+      → outlineOf (machineOf pool w) (signedDayView P K run w schedule (known pool g) R N .1)
+      ≡ outlineOf (machineOf pool w) (signedDayView P K run w schedule (known pool g) R′ N′ .1)
 
 -- ---- that the words above mean what they should
 
