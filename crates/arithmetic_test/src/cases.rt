@@ -54,7 +54,7 @@ pub const DRAWN: u64 = 6400;
 pub const MODULI: u64 = OF_16_BITS + 2 * NEAR;
 
 // How many refusals there are, and how many inputs: a thousand of each. No refusal has the number in the gap.
-const REFUSALS: u64 = 20;
+const REFUSALS: u64 = 22;
 
 const GAP: u64 = 18;
 
@@ -168,7 +168,7 @@ fn every_modulus(k: u64) -> Symbol {
     low32(two_steps(step(k)))
 }
 
-// The numbers of all refusals in turn: 1 to 17, then 19 to 21.
+// The numbers of all refusals in turn: 1 to 17, then 19 to 23.
 fn catalogued(k: u64) -> Symbol {
     let number = k % REFUSALS + 1;
     if number < GAP {

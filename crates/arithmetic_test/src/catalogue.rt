@@ -39,9 +39,11 @@ fn refusal(number: u16, first: u16, second: u16) -> Refusal {
         15 => Refusal::OutsideCap,
         16 => Refusal::BadCap,
         17 => Refusal::BadWindow,
+        19 => Refusal::JointLeaks { coalition: first },
         20 => Refusal::PastLimit,
         21 => Refusal::BadStock,
-        _ => Refusal::JointLeaks { coalition: first },
+        22 => Refusal::BadPattern,
+        _ => Refusal::NotDecodable,
     }
 }
 
