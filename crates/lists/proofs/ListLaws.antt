@@ -68,14 +68,26 @@ map-get h (x ∷ l) zero d e k = refl
 map-get h (x ∷ l) (suc i) d e k = map-get h l i d e (le-of-suc-le-suc k)
 
 -- the entries from m on
-pub tab-append : (m n : ℕ) (f : ℕ → ℕ) → tab (m + n) f ≡ tab m f ++ tab n (λ k. f (m + k))
+pub tab-append : {A : Type 0} (m n : ℕ) (f : ℕ → A) → tab (m + n) f ≡ tab m f ++ tab n (λ k. f (m + k))
 unfolding tab
 tab-append zero n f =
     ap (λ (k : ℕ). tab k f) (zero-add n) ∙ tab-cong n f (λ k. f (zero + k)) (λ k _. ap f (sym (zero-add k)))
 tab-append (suc m) n f =
     ap (λ (k : ℕ). tab k f) (suc-add m n)
-    ∙ ap (λ (l : List ℕ). f 0 ∷ l) (tab-append m n (λ k. f (suc k)))
-    ∙ ap (λ (l : List ℕ). tab (suc m) f ++ l) (tab-cong n (λ k. f (suc (m + k))) (λ k. f (suc m + k)) (λ k _. ap f (sym (suc-add m k))))
+    ∙ ap (λ (l : List _). f 0 ∷ l) (tab-append m n (λ k. f (suc k)))
+    ∙ ap (λ (l : List _). tab (suc m) f ++ l) (tab-cong n (λ k. f (suc (m + k))) (λ k. f (suc m + k)) (λ k _. ap f (sym (suc-add m k))))
+
+-- what each entry has
+pub all-tab : {A : Type 0} (P : A → Type 0) (n : ℕ) (f : ℕ → A) → ((k : ℕ) → k < n → P (f k)) → All P (tab n f)
+unfolding tab
+all-tab P zero f h = tt
+all-tab P (suc n) f h = (h 0 (zero-lt-suc n), all-tab P n (λ k. f (suc k)) (λ k l. h (suc k) (suc-le-suc l)))
+
+pub tab-all : {A : Type 0} (P : A → Type 0) (n : ℕ) (f : ℕ → A) → All P (tab n f) → (k : ℕ) → k < n → P (f k)
+unfolding tab
+tab-all P zero f h k l = absurd (not-suc-le-zero l)
+tab-all P (suc n) f h zero l = h .0
+tab-all P (suc n) f h (suc k) l = tab-all P n (λ k. f (suc k)) (h .1) k (le-of-suc-le-suc l)
 
 -- ---- zeros
 
@@ -175,3 +187,14 @@ picked-inj (suc n) b f g e i l t =
     one : (c : Bool) → cond c (f n ∷ []) [] ≡ cond c (g n ∷ []) [] → T c → f n ≡ g n
     one true h s = head-eq-of-cons-eq h
     one false h s = absurd s
+
+-- equal members where they are picked
+pub picked-cong : {A : Type 0} (n : ℕ) (b : ℕ → Bool) (f g : ℕ → A) → ((i : ℕ) → i < n → T (b i) → f i ≡ g i)
+    → picked n b (λ i. f i ∷ []) ≡ picked n b (λ i. g i ∷ [])
+unfolding picked joinTo
+picked-cong zero b f g h = refl
+picked-cong (suc n) b f g h = ap₂ _++_ (picked-cong n b f g (λ i l. h i (omega arith))) (one (b n) (h n (lt-suc-self n)))
+  where
+    one : (c : Bool) → (T c → f n ≡ g n) → cond c (f n ∷ []) [] ≡ cond c (g n ∷ []) []
+    one true k = ap (λ x. x ∷ []) (k tt)
+    one false k = refl

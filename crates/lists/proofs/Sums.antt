@@ -99,6 +99,34 @@ sum-but-one (suc n) f g k h same =
     (λ c. omega (arith, sum-but-one n f g k c (λ i l. same i (omega arith)), same n (lt-suc-self n) (omega arith)))
     (eq-or-lt-of-le (le-of-suc-le-suc h))
 
+-- one summand, where the others are 0
+pub sum-only : (n : ℕ) (f : ℕ → ℕ) (k : ℕ) → k < n → ((i : ℕ) → i < n → i ≢ k → f i ≡ 0) → sumTo n f ≡ f k
+sum-only n f k h z = omega (arith, sum-but-one n f (λ _. 0) k h z, sum-zero n (λ _. 0) (λ i l. refl))
+
 -- a 1 at k, and 0 elsewhere
 pub sum-one : (n : ℕ) (f : ℕ → ℕ) (k : ℕ) → k < n → f k ≡ 1 → ((i : ℕ) → i < n → i ≢ k → f i ≡ 0) → sumTo n f ≡ 1
-sum-one n f k h e z = omega (arith, sum-but-one n f (λ _. 0) k h z, sum-zero n (λ _. 0) (λ i l. refl))
+sum-one n f k h e z = sum-only n f k h z ∙ e
+
+-- the first d summands, where the others are 0
+pub sum-first : (n d : ℕ) (f : ℕ → ℕ) → d ≤ n → ((i : ℕ) → d ≤ i → i < n → f i ≡ 0) → sumTo n f ≡ sumTo d f
+unfolding sumTo
+sum-first zero d f h z = let e : 0 ≡ d = omega arith in ap (λ (k : ℕ). sumTo k f) e
+sum-first (suc n) d f h z =
+    ⊎-elim
+    (λ e. ap (λ (k : ℕ). sumTo k f) (sym e))
+    (λ l. omega (arith, sum-first n d f (omega arith) (λ i a b. z i a (omega arith)), z n (omega arith) (lt-suc-self n)))
+    (eq-or-lt-of-le h)
+
+-- a multiple of a sum
+pub sum-mul : (n c : ℕ) (f : ℕ → ℕ) → sumTo n (λ k. c * f k) ≡ c * sumTo n f
+unfolding sumTo
+sum-mul zero c f = omega arith
+sum-mul (suc n) c f = omega (arith, sum-mul n c f)
+
+-- sums of sums, the other way round
+pub sum-swap : (m n : ℕ) (f : ℕ → ℕ → ℕ) → sumTo m (λ i. sumTo n (λ j. f i j)) ≡ sumTo n (λ j. sumTo m (λ i. f i j))
+unfolding sumTo
+sum-swap zero n f = sym (sum-zero n (λ j. 0) (λ j l. refl))
+sum-swap (suc m) n f =
+    ap (λ (z : ℕ). z + sumTo n (f m)) (sum-swap m n f)
+    ∙ sym (sum-add n (λ j. sumTo m (λ i. f i j)) (f m))

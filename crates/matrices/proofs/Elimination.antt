@@ -190,6 +190,18 @@ module _ (q : ℕ) (pr : Prime q) (rows cols from : ℕ) (U : List ℕ) (tab : T
           each j l (no k) =
               subst (Vector q cols) (sym (after h j (omega arith) l)) (vector-cleared q pos cols (pivotOf r) s (rowOf cols U j) s-size (tab .valid j l))
 
+  -- what a row from `from` on has with any list, where row i is not 0
+  pub eliminated-product : pivotOf (rowOf cols U i) < cols → (j : ℕ) → from ≤ j → j < rows → (N : List ℕ)
+      → Cong q (dotN (rowOf cols (eliminatedFrom q rows cols from i U) j) N)
+      (dotN (rowOf cols U j) N
+      + (q - 1) * at (rowOf cols U j) (pivotOf (rowOf cols U i)) * (inverseOf q (at (rowOf cols U i) (pivotOf (rowOf cols U i))) * dotN (rowOf cols U i) N))
+  unfolding s r
+  eliminated-product h j l k N =
+      c-trans (of-eq (ap (λ (x : List ℕ). dotN x N) (after h j l k)))
+      (c-trans (dot-cleared q pos (pivotOf r) s (rowOf cols U j) N (tab .valid j k .size ∙ sym s-size))
+      (c-add (c-refl {a = dotN (rowOf cols U j) N})
+      (c-mul-left ((q - 1) * at (rowOf cols U j) (pivotOf r)) (dot-scaled-row q pos (inverseOf q (at r (pivotOf r))) r N))))
+
   -- the rows from `from` on are now rows modulo one row more
   pub eliminated-reduced : (low : ℕ) (row : ℕ → List ℕ) (S : List (List ℕ)) → low ≤ i → Reduced q rows cols low row S U → (low′ : ℕ) → low ≤ low′ → from ≤ low′
       → Reduced q rows cols low′ row (S ++ (row i ∷ [])) (eliminatedFrom q rows cols from i U)

@@ -7,9 +7,12 @@ pub mod RankLaws
 pub mod Solvability
 pub mod LargestRank
 pub mod Elimination
+pub mod Sweeping
+pub mod KeptRows
 pub mod EliminateLaw
 mod RankExamples
 mod Steps
+mod Carrying
 mod Rows
 mod RankChecks
 pub mod MadeVectors

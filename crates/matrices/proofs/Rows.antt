@@ -65,7 +65,7 @@ module _ (q : ℕ) (pos : 0 < q) where
       c-trans (c-add (c-mul-right z (of-residue q (x + m * y) pos)) (dot-fused m r s N (suc-inj e))) (of-eq (omega arith))
 
   -- what x lacks to a multiple of q is minus x
-  minus : (x : ℕ) → Cong q (oppositeOf q x) ((q - 1) * x)
+  pub minus : (x : ℕ) → Cong q (oppositeOf q x) ((q - 1) * x)
   minus x =
       let l : x % q < q = mod-lt x pos in
       let m : (q - 1) + 1 ≡ q = omega arith in

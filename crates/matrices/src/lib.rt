@@ -7,6 +7,7 @@ ghost use lib.ListN.{length};
 ghost use Rattle.refusals.specs.Codes.{firstOf, verdictCode, outcome};
 ghost use Rattle.matrices.specs.Tables.{rowOf, rowsOf, pivotOf, scaled, fused, cleared, eachRow};
 ghost use Rattle.matrices.specs.Tables.{hasPivot, clearedBy, eliminatedFrom, eliminated, reducedFrom, pivotsFrom};
+ghost use Rattle.matrices.specs.Sweeps.{carriedBy, carried};
 ghost use Rattle.matrices.specs.Rank.{rankOf};
 ghost use Rattle.matrices.specs.Entries.{outcomeOf, rankChecks};
 use arithmetic::Symbol;
@@ -143,6 +144,48 @@ pub fn eliminate(q: Symbol, rows: usize, cols: usize, i: usize, table: &mut [Sym
         return false;
     }
     eliminate_from(q, rows, cols, 0, i, table)
+}
+
+fn carry_by(q: Symbol, cols: usize, i: usize, p: usize, table: &[Symbol], values: &mut [Symbol])
+    requires { ⌜ (length (now values) ≤ 48) × (cols ≤ 48) × (length (now values) * cols ≡ length (now table)) × (i < length (now values)) × (p < cols) ⌝ }
+    ensures { λ _. ⌜ now (values .exit) ≡ carriedBy q cols i p (now (table .entry)) (now (values .entry)) ⌝ }
+{
+    let c = arithmetic::inverse_mod(q, table[i * cols + p]);
+    let v = arithmetic::mul_mod(q, c, values[i]);
+    let mut r = 0;
+    while r < values.len() {
+        let m = arithmetic::opposite_mod(q, table[r * cols + p]);
+        values[r] = arithmetic::mul_add_mod(q, values[r], m, v);
+        r += 1;
+    }
+}
+
+// Takes off the values beside the rows, one each, what elimination by row i takes off the rows. It reads the table as it is before that.
+pub fn carry(q: Symbol, rows: usize, cols: usize, i: usize, table: &[Symbol], values: &mut [Symbol])
+    ensures { λ _. ⌜ now (values .exit) ≡ carried q rows cols i (now (table .entry)) (now (values .entry)) ⌝ }
+{
+    if rows > MOST {
+        return;
+    }
+    if cols > MOST {
+        return;
+    }
+    if rows * cols != table.len() {
+        return;
+    }
+    if values.len() != rows {
+        return;
+    }
+    if i >= rows {
+        return;
+    }
+    let b = i * cols;
+    let e = b + cols;
+    let p = pivot(&table[b..e]);
+    if p >= cols {
+        return;
+    }
+    carry_by(q, cols, i, p, table, values);
 }
 
 // Clears, by each row in turn, the rows after it; how many rows were not 0 when their turn came.
