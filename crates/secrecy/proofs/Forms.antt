@@ -1,9 +1,9 @@
 -- Views by forms, linear in the readings and the source symbols of a position. A position has m readings and n source symbols, numbers below q.
-use Prim.Native.Nat.{ℕ, zero, suc, _+_, _*_, _%_, _<_}
+use Prim.Native.Nat.{ℕ, zero, suc, _+_, _*_, _%_, _<_, suc-le-suc}
 use mathlib.Core.Path.{_≡_, refl, sym, ap, ap₂, _∙_, subst, subst₂}
 use mathlib.Core.Bool.{Bool, true, false, cond}
 use mathlib.Core.List.{List, [], _∷_, _++_, append-nil, append-assoc}
-use native.Mathlib.Nat.{mod-lt, lt-suc-self}
+use native.Mathlib.Nat.{mod-lt, lt-suc-self, zero-lt-suc}
 use native.Mathlib.Omega.{arith}
 use lib.ListN.{length}
 use lib.Dec.{T}
@@ -58,11 +58,13 @@ pub record Mask (q n : ℕ) (F : List Form) (d : List ℕ) : Type 0 where
 abbrev pub Hidden : (q m n : ℕ) → List (List ℕ) → List Form → Type 0
 Hidden q m n E F = (d : List ℕ) → Vector q m d → Unseen q E d → Mask q n F d
 
--- a view that is one by the forms F, and an agreement that is one on the rows E
-pub record ByForms (q m n : ℕ) (E : List (List ℕ)) (F : List Form) (agrees : ℕ → List ℕ → List ℕ → Type 0) (see : ℕ → List ℕ → List ℕ → List ℕ) : Type 0 where
-  pub views : (L : ℕ) (W N : List ℕ) → Symbols q m L W → see L W N ≡ viewOf q m n F L W N
-  pub rows : (L : ℕ) (W W′ : List ℕ) → agrees L W W′ → AgreeOn q m E L W W′
-  pub agreed : (L : ℕ) (W W′ : List ℕ) → Symbols q m L W → Symbols q m L W′ → AgreeOn q m E L W W′ → agrees L W W′
+-- among some readings, a view that is one by the forms F, and an agreement that is one on the rows E
+pub record ByForms (q m n : ℕ) (among : ℕ → List ℕ → Type 0) (E : List (List ℕ)) (F : List Form) (agrees : ℕ → List ℕ → List ℕ → Type 0)
+    (see : ℕ → List ℕ → List ℕ → List ℕ) : Type 0 where
+  pub symbols : (L : ℕ) (W : List ℕ) → among L W → Symbols q m L W
+  pub views : (L : ℕ) (W N : List ℕ) → among L W → see L W N ≡ viewOf q m n F L W N
+  pub rows : (L : ℕ) (W W′ : List ℕ) → among L W → among L W′ → agrees L W W′ → AgreeOn q m E L W W′
+  pub agreed : (L : ℕ) (W W′ : List ℕ) → among L W → among L W′ → AgreeOn q m E L W W′ → agrees L W W′
 
 -- ---- their laws
 
@@ -79,9 +81,10 @@ module _ (q m n L : ℕ) (W N : List ℕ) where
       (view-vector pos F))
 
   -- so has a view that is one by k forms
-  pub see-vector : 0 < q → (k : ℕ) (E : List (List ℕ)) (F : List Form) (agrees : ℕ → List ℕ → List ℕ → Type 0) (see : ℕ → List ℕ → List ℕ → List ℕ)
-      → ByForms q m n E F agrees see → length F ≡ k → Symbols q m L W → Vector q (k * L) (see L W N)
-  see-vector pos k E F agrees see by e v = subst₂ (λ (k : ℕ) (s : List ℕ). Vector q (k * L) s) e (sym (by .views L W N v)) (view-vector pos F)
+  pub see-vector : 0 < q → (k : ℕ) (among : ℕ → List ℕ → Type 0) (E : List (List ℕ)) (F : List Form) (agrees : ℕ → List ℕ → List ℕ → Type 0)
+      (see : ℕ → List ℕ → List ℕ → List ℕ)
+      → ByForms q m n among E F agrees see → length F ≡ k → among L W → Vector q (k * L) (see L W N)
+  see-vector pos k among E F agrees see by e v = subst₂ (λ (k : ℕ) (s : List ℕ). Vector q (k * L) s) e (sym (by .views L W N v)) (view-vector pos F)
 
   -- forms after others show their values after those
   pub view-append : (F F′ : List Form) → viewOf q m n (F ++ F′) L W N ≡ viewOf q m n F L W N ++ viewOf q m n F′ L W N
@@ -106,3 +109,11 @@ module _ (q m n L : ℕ) (W N : List ℕ) where
   view-picked (suc k) b F f h =
       view-append (picked k b (λ i. F i ∷ [])) (cond (b k) (F k ∷ []) [])
       ∙ ap₂ _++_ (view-picked k b F f (λ i l. h i (omega arith))) (view-cond (b k) (F k) (f k) (h k (lt-suc-self k)))
+
+-- what forms that are made one by one show in one position
+pub view-tab : (q m n : ℕ) (W N : List ℕ) (k : ℕ) (F : ℕ → Form) (f : ℕ → ℕ) → ((i : ℕ) → i < k → value q m n (F i) 1 W N 0 ≡ f i)
+    → viewOf q m n (tab k F) 1 W N ≡ tab k f
+unfolding tab viewOf
+view-tab q m n W N zero F f h = refl
+view-tab q m n W N (suc k) F f h =
+    ap₂ _∷_ (h 0 (zero-lt-suc k)) (view-tab q m n W N k (λ i. F (suc i)) (λ i. f (suc i)) (λ i l. h (suc i) (suc-le-suc l)))

@@ -174,34 +174,34 @@ module _ (q m n : ℕ) (pos : 0 < q) where
 
   -- ---- any view that is one by forms
 
-  module _ (E : List (List ℕ)) (F : List Form) (agrees : ℕ → List ℕ → List ℕ → Type 0) (see : ℕ → List ℕ → List ℕ → List ℕ)
-      (by : ByForms q m n E F agrees see) where
+  module _ (among : ℕ → List ℕ → Type 0) (E : List (List ℕ)) (F : List Form) (agrees : ℕ → List ℕ → List ℕ → Type 0)
+      (see : ℕ → List ℕ → List ℕ → List ℕ) (by : ByForms q m n among E F agrees see) where
     -- where all unseen differences are hidden, one view is carried to the other
-    pub hidden-carries : Hidden q m n E F → (L : ℕ) (W W′ : List ℕ) → Symbols q m L W → Symbols q m L W′ → agrees L W W′ → Carrier q n see L W W′
+    pub hidden-carries : Hidden q m n E F → (L : ℕ) (W W′ : List ℕ) → among L W → among L W′ → agrees L W W′ → Carrier q n see L W W′
     hidden-carries hid L W W′ v v′ a =
-        let c : Carrier q n (viewOf q m n F) L W W′ = hidden-spread E F L W W′ hid (by .rows L W W′ a) in
+        let c : Carrier q n (viewOf q m n F) L W W′ = hidden-spread E F L W W′ hid (by .rows L W W′ v v′ a) in
         record {
           T = c .T;
           valid = c .valid;
           carries = λ N w. by .views L W′ (shift q N (c .T)) v′ ∙ c .carries N w ∙ sym (by .views L W N v);
         }
 
-    -- so nothing leaks, among any readings
-    pub hidden-keeps : Hidden q m n E F → (readings : ℕ → List ℕ → Type 0) → ((L : ℕ) (W : List ℕ) → readings L W → Symbols q m L W)
+    -- so nothing leaks, among any of these readings
+    pub hidden-keeps : Hidden q m n E F → (readings : ℕ → List ℕ → Type 0) → ((L : ℕ) (W : List ℕ) → readings L W → among L W)
         → ¬ (Leak q n readings agrees see)
-    hidden-keeps hid readings symbols k =
+    hidden-keeps hid readings within k =
         k .unequal
         (carried-numbers q n see (k .L) (k .W) (k .W′)
-        (hidden-carries hid (k .L) (k .W) (k .W′) (symbols (k .L) (k .W) (k .W-in)) (symbols (k .L) (k .W′) (k .W′-in)) (k .same)) (k .s))
+        (hidden-carries hid (k .L) (k .W) (k .W′) (within (k .L) (k .W) (k .W-in)) (within (k .L) (k .W′) (k .W′-in)) (k .same)) (k .s))
 
     -- a difference that nothing makes up for leaks in one position, and it takes no other readings than 0 and d
-    pub unmasked-leaks : (readings : ℕ → List ℕ → Type 0) → ((L : ℕ) (W : List ℕ) → readings L W → Symbols q m L W)
+    pub unmasked-leaks : (readings : ℕ → List ℕ → Type 0) → ((L : ℕ) (W : List ℕ) → readings L W → among L W)
         → (d : List ℕ) → readings 1 (zeros m) → readings 1 d → Unseen q E d → ¬ (Mask q n F d) → Leak q n readings agrees see
     unfolding keysShowing
-    unmasked-leaks readings symbols d r₀ r₁ un none =
-        let v₀ : Symbols q m 1 (zeros m) = symbols 1 (zeros m) r₀ in
-        let v₁ : Symbols q m 1 d = symbols 1 d r₁ in
-        let ed : length d ≡ m = omega (arith, v₁ .size) in
+    unmasked-leaks readings within d r₀ r₁ un none =
+        let v₀ : among 1 (zeros m) = within 1 (zeros m) r₀ in
+        let v₁ : among 1 d = within 1 d r₁ in
+        let ed : length d ≡ m = omega (arith, by .symbols 1 d v₁ .size) in
         record {
           L = 1;
           low = omega arith;

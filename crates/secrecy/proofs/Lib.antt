@@ -17,3 +17,5 @@ mod OverAll
 pub mod Pieces
 pub mod RunCounts
 pub mod ViewParts
+pub mod FormRank
+pub mod FormLeaks

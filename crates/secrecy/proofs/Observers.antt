@@ -96,13 +96,14 @@ module _ (P : Pool) (prime : Prime (P .q)) (valid : Vector (P .q) (users P * P .
           (sym (picked-all made k seen F (all-left made shownForms (knownForms P g) (m .makes-up)) j c (o .shown j s)))
 
   module _ (agrees : ℕ → List ℕ → List ℕ → Type 0) (see : ℕ → List ℕ → List ℕ → List ℕ)
-      (by : ByForms (P .q) (users P) (P .rate) E (seenForms P g k seen F) agrees see)
+      (by : ByForms (P .q) (users P) (P .rate) (Symbols (P .q) (users P)) E (seenForms P g k seen F) agrees see)
       (readings : ℕ → List ℕ → Type 0) (symbols : (L : ℕ) (W : List ℕ) → readings L W → Symbols (P .q) (users P) L W) where
     -- where the source parts are independent nothing leaks, among any readings
     pub observer-keeps : Independent (P .q) (P .rate) (coalitionRows P g) (picked k tested (λ i. F i .onSource ∷ []))
         → ¬ (Leak (P .q) (P .rate) readings agrees see)
     observer-keeps i =
-        hidden-keeps (P .q) (users P) (P .rate) (prime-pos prime) E (seenForms P g k seen F) agrees see by (observer-hides i) readings symbols
+        hidden-keeps (P .q) (users P) (P .rate) (prime-pos prime) (Symbols (P .q) (users P)) E (seenForms P g k seen F) agrees see by (observer-hides i) readings
+        symbols
 
     -- and where they are not, a leak is found among readings that have a difference to tell of each
     pub observer-either : readings 1 (zeros (users P)) → ((i : ℕ) → i < k → T (tested i) → Telling P readings E tested F i)
@@ -112,7 +113,8 @@ module _ (P : Pool) (prime : Prime (P .q)) (valid : Vector (P .q) (users P * P .
         (λ w.
         let x : Telling P readings E tested F (w .i) = tells (w .i) (w .inside) (w .taken) in
         inr
-        (unmasked-leaks (P .q) (users P) (P .rate) (prime-pos prime) E (seenForms P g k seen F) agrees see by readings symbols (x .d) none (x .chosen)
+        (unmasked-leaks (P .q) (users P) (P .rate) (prime-pos prime) (Symbols (P .q) (users P)) E (seenForms P g k seen F) agrees see by readings symbols (x .d) none
+        (x .chosen)
         (x .unseen)
         (unmasked readings (w .i) (w .inside) (w .taken) (w .depends) x)))
         (independent-or-dependent (P .q) prime (P .rate) (coalitionRows P g) tested source (coalition-vectors P prime valid g) (o .sources) k)

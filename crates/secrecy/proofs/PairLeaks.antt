@@ -34,6 +34,14 @@ pub use Rattle.secrecy.proofs.RankCondition.{row-vector, sum-row-vector
 just-where : {A B : Type 0} → A ⊎ B → (A → ¬ B) → (¬ B) ↔ A
 just-where e f = ((λ n. ⊎-elim (λ a. a) (λ b. absurd (n b)) e), f)
 
+-- what does not leak has equal numbers, for all readings that agree and every view
+pub quiet-equal : (q n : ℕ) (readings : ℕ → List ℕ → Type 0) (agrees : ℕ → List ℕ → List ℕ → Type 0) (see : ℕ → List ℕ → List ℕ → List ℕ)
+    → ¬ (Leak q n readings agrees see) → (L : ℕ) → 1 ≤ L → L ≤ longest → (W W′ : List ℕ) → readings L W → readings L W′ → agrees L W W′
+    → (s : List ℕ) → keysShowing q n see L W s ≡ keysShowing q n see L W′ s
+quiet-equal q n readings agrees see quiet L low high W W′ v v′ a s =
+    Dec·not-not (ℕ-discrete (keysShowing q n see L W s) (keysShowing q n see L W′ s)) .0
+    (λ n. quiet (record { L = L; low = low; high = high; W = W; W′ = W′; W-in = v; W′-in = v′; same = a; s = s; unequal = n }))
+
 module _ (P : Pool) (prime : Prime (P .q)) (valid : Vector (P .q) (users P * P .rate) (P .table)) where
   -- the search finds a leak just where there is one
   pub leaks-iff : (g w : ℕ) → T (leaks P g w) ↔ PairLeak P g w
@@ -102,27 +110,18 @@ module _ (P : Pool) (prime : Prime (P .q)) (valid : Vector (P .q) (users P * P .
 
   -- ---- what it means
 
-  -- what does not leak has equal numbers, for all readings that agree and every view
-  quiet-equal : (agrees : ℕ → List ℕ → List ℕ → Type 0) (see : ℕ → List ℕ → List ℕ → List ℕ) → ¬ (Leak (P .q) (P .rate) every agrees see)
-      → (L : ℕ) → 1 ≤ L → L ≤ longest
-      → (W W′ : List ℕ) → Symbols (P .q) (users P) L W → Symbols (P .q) (users P) L W′ → agrees L W W′
-      → (s : List ℕ) → keysShowing (P .q) (P .rate) see L W s ≡ keysShowing (P .q) (P .rate) see L W′ s
-  quiet-equal agrees see quiet L low high W W′ v v′ a s =
-      Dec·not-not (ℕ-discrete (keysShowing (P .q) (P .rate) see L W s) (keysShowing (P .q) (P .rate) see L W′ s)) .0
-      (λ n. quiet (record { L = L; low = low; high = high; W = W; W′ = W′; W-in = v; W′-in = v′; same = a; s = s; unequal = n }))
-
-  -- so has a pair
+  -- a pair
   pub equal-numbers : (g w : ℕ) → ¬ (PairLeak P g w) → (L : ℕ) → 1 ≤ L → L ≤ longest
       → (W W′ : List ℕ) → Symbols (P .q) (users P) L W → Symbols (P .q) (users P) L W′ → Agrees P g w L W W′
       → (s : List ℕ) → keysShowing (P .q) (P .rate) (view P g w) L W s ≡ keysShowing (P .q) (P .rate) (view P g w) L W′ s
-  equal-numbers g w = quiet-equal (Agrees P g w) (view P g w)
+  equal-numbers g w = quiet-equal (P .q) (P .rate) every (Agrees P g w) (view P g w)
 
   -- and the joint observer of two clusters
   pub joint-equal-numbers : (u w g : ℕ) → ¬ (JointLeak P u w g) → (L : ℕ) → 1 ≤ L → L ≤ longest
       → (W W′ : List ℕ) → Symbols (P .q) (users P) L W → Symbols (P .q) (users P) L W′ → Agree P g L W W′
       → (s : List ℕ) → keysShowing (P .q) (P .rate) (setView P (inEither P u w) g) L W s
       ≡ keysShowing (P .q) (P .rate) (setView P (inEither P u w) g) L W′ s
-  joint-equal-numbers u w g = quiet-equal (Agree P g) (setView P (inEither P u w) g)
+  joint-equal-numbers u w g = quiet-equal (P .q) (P .rate) every (Agree P g) (setView P (inEither P u w) g)
 
   -- a pair that leaks does so in one position, with no other readings than 0, 1 and q - 1
   pub small-leak : ZeroSum P → (g w : ℕ) → PairLeak P g w → Leak (P .q) (P .rate) (Small (P .q) (users P)) (Agrees P g w) (view P g w)

@@ -177,23 +177,26 @@ module _ (P : Pool) where
 
   -- of the uploads of the users that b picks
   pub set-forms : (b : ℕ → Bool) (g : ℕ)
-      → ByForms (P .q) (users P) (P .rate) (units g) (seenForms g (users P) b upForm) (Agree P g) (setView P b g)
+      → ByForms (P .q) (users P) (P .rate) (Symbols (P .q) (users P)) (units g) (seenForms g (users P) b upForm) (Agree P g) (setView P b g)
   unfolding setView blocks
   set-forms b g =
       record {
+        symbols = λ L W v. v;
         views = λ L W N v. sym (seen-view L W N g (users P) b upForm (upload P L W N) v (up-value L W N));
-        rows = λ L W W′ a. members-rows g L W W′ (a .members);
+        rows = λ L W W′ v v′ a. members-rows g L W W′ (a .members);
         agreed = λ L W W′ v v′ a. record { members = rows-members g L W W′ v v′ a };
       }
 
   -- the server
   pub server-forms : (g : ℕ)
-      → ByForms (P .q) (users P) (P .rate) (ones ∷ units g) (seenForms g (P .clusters) (λ _. true) sumForm) (ServerAgree P g) (serverView P g)
+      → ByForms (P .q) (users P) (P .rate) (Symbols (P .q) (users P)) (ones ∷ units g) (seenForms g (P .clusters) (λ _. true) sumForm) (ServerAgree P g)
+      (serverView P g)
   unfolding serverView picked
   server-forms g =
       record {
+        symbols = λ L W v. v;
         views = λ L W N v. sym (seen-view L W N g (P .clusters) (λ _. true) sumForm (relaySum P L W N) v (sum-value L W N));
-        rows = λ L W W′ a p l. (dot-total L W p ∙ a .totals p l ∙ sym (dot-total L W′ p), members-rows g L W W′ (a .coalition .members) p l);
+        rows = λ L W W′ v v′ a p l. (dot-total L W p ∙ a .totals p l ∙ sym (dot-total L W′ p), members-rows g L W W′ (a .coalition .members) p l);
         agreed = λ L W W′ v v′ a.
             record {
               coalition = record { members = rows-members g L W W′ v v′ (λ p l. a p l .1) };

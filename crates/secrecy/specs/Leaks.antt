@@ -23,6 +23,19 @@ keysShowing q n see L W s = count q (L * n) (λ N. sameList (see L W N) s)
 
 -- ---- as a test
 
+-- two sets of m readings a position that agree, and a view, shown by some source key or by none, with unequal numbers
+module _ (q m n : ℕ) (agrees : ℕ → List ℕ → List ℕ → Bool) (size : ℕ → ℕ) (see : ℕ → List ℕ → List ℕ → List ℕ) where
+  -- in L positions
+  unfoldable pub foundAt : ℕ → Bool
+  foundAt L =
+      anyList q (m * L) (λ W.
+      anyList q (m * L) (λ W′.
+      agrees L W W′ && anyList q (size L) (λ s. not (eqb (keysShowing q n see L W s) (keysShowing q n see L W′ s)))))
+
+  -- for some L
+  unfoldable pub found : Bool
+  found = anyTo longest (λ l. foundAt (suc l))
+
 module _ (P : Pool) where
   -- do two sets of readings agree on the coalition's members, and on the totals?
   unfoldable pub membersAgree : ℕ → ℕ → List ℕ → List ℕ → Bool
@@ -40,25 +53,13 @@ module _ (P : Pool) where
   abbrev pub places : ℕ → ℕ → ℕ → ℕ
   places shown g L = (shown + (howMany (users P) (inCoalition g) + howMany (users P) (inCoalition g))) * L
 
-  -- two sets of readings that agree, and a view, shown by some source key or by none, with unequal numbers
-  unfoldable pub foundAt : (ℕ → List ℕ → List ℕ → Bool) → (ℕ → ℕ) → (ℕ → List ℕ → List ℕ → List ℕ) → ℕ → Bool
-  foundAt agrees size see L =
-      anyList (P .q) (users P * L) (λ W.
-      anyList (P .q) (users P * L) (λ W′.
-      agrees L W W′
-      && anyList (P .q) (size L) (λ s. not (eqb (keysShowing (P .q) (P .rate) see L W s) (keysShowing (P .q) (P .rate) see L W′ s)))))
-
-  -- for some L
-  unfoldable pub found : (ℕ → List ℕ → List ℕ → Bool) → (ℕ → ℕ) → (ℕ → List ℕ → List ℕ → List ℕ) → Bool
-  found agrees size see = anyTo longest (λ l. foundAt agrees size see (suc l))
-
   -- what the users that b picks upload leaks, with a coalition
   abbrev pub setLeaks : (ℕ → Bool) → ℕ → Bool
-  setLeaks b g = found (membersAgree g) (places (howMany (users P) b) g) (setView P b g)
+  setLeaks b g = found (P .q) (users P) (P .rate) (membersAgree g) (places (howMany (users P) b) g) (setView P b g)
 
   -- what the relay sums leak
   abbrev pub sumsLeak : ℕ → Bool
-  sumsLeak g = found (agree g zero) (places (P .clusters) g) (serverView P g)
+  sumsLeak g = found (P .q) (users P) (P .rate) (agree g zero) (places (P .clusters) g) (serverView P g)
 
   -- the pair of coalition g and observer w leaks
   abbrev pub leaks : ℕ → ℕ → Bool
@@ -74,6 +75,11 @@ module _ (P : Pool) where
 -- L symbols below q for each of m users
 abbrev pub Symbols : (q m L : ℕ) → List ℕ → Type 0
 Symbols q m L W = Vector q (m * L) W
+
+-- the same in so many positions alone
+pub record Positions (q m many L : ℕ) (W : List ℕ) : Type 0 where
+  pub many-are : L ≡ many
+  pub symbols : Symbols q m L W
 
 -- two sets of readings, among those in question, that agree and have unequal numbers for some view
 pub record Leak (q n : ℕ) (readings : ℕ → List ℕ → Type 0) (agrees : ℕ → List ℕ → List ℕ → Type 0) (see : ℕ → List ℕ → List ℕ → List ℕ) : Type 0 where
