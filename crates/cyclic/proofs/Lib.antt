@@ -1,0 +1,4 @@
+pub mod NetworkForms
+pub mod NetworkVerdicts
+mod Choices
+pub mod DecodingLaws
