@@ -13,6 +13,6 @@ pub mod EliminateLaw
 mod RankExamples
 mod Steps
 mod Carrying
-mod Rows
+pub mod Rows
 mod RankChecks
 pub mod MadeVectors

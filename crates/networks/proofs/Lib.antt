@@ -1,0 +1,10 @@
+pub mod Fronts
+pub mod RingLaws
+pub mod GridLaws
+pub mod GridRows
+pub mod LeakLaws
+pub mod CheckLaws
+pub mod DecodeLaws
+pub mod ValueLaws
+pub mod RoundTrip
+pub mod VetLaws
