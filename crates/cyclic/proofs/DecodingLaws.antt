@@ -20,7 +20,7 @@ use Rattle.matrices.specs.Rank.{sameList, inSpan}
 use Rattle.matrices.proofs.Notions.{dotN, dot, InSpan, Separated, Independent, Solution}
 use Rattle.matrices.proofs.Vectors.{dot-append, dot-zeros, dot-zeroed, el-reduce}
 use Rattle.lists.proofs.ListLaws.{length-zeros, length-tab, tab-at, map-picked, all-picked, picked-all, picked-inj, picked-cong, length-picked}
-use Rattle.matrices.proofs.Spans.{in-span-iff, span-members, same→eq}
+use Rattle.matrices.proofs.Spans.{any-list-found, any-list-at, in-span-iff, span-members, same→eq, eq→same}
 use Rattle.matrices.proofs.Duality.{duality, span-trans}
 use Rattle.matrices.proofs.Solvability.{solvable-iff}
 use Rattle.matrices.proofs.MadeVectors.{vector-picked}
@@ -89,6 +89,21 @@ module _ (C : Network) where
       (λ j l k. ap (λ (y : ℕ). y ∷ [])
       (h j l (T-and (hasBit reported j) (not (inSpan (C .q) (columns C) (picked j (hasBit reported) (λ i. relayRow C i ∷ [])) (relayRow C j))) k .0))))
 
+  -- a combination of the kept rows is what the search finds
+  pub combination-found : (reported s : ℕ) → T (inSpan (C .q) (columns C) (keptRows C reported) (totalRow C s))
+      → (cs : List ℕ) × Vector (C .q) (length (keptRows C reported)) cs × (comb (C .q) (columns C) cs (keptRows C reported) ≡ totalRow C s)
+  unfolding inSpan
+  combination-found reported s t =
+      let (cs, v, u) = any-list-found (C .q) (length (keptRows C reported)) (λ cs. sameList (comb (C .q) (columns C) cs (keptRows C reported)) (totalRow C s)) t in
+      (cs, v, same→eq (comb (C .q) (columns C) cs (keptRows C reported)) (totalRow C s) u)
+
+  pub combination-in : (reported s : ℕ) (cs : List ℕ) → Vector (C .q) (length (keptRows C reported)) cs
+      → comb (C .q) (columns C) cs (keptRows C reported) ≡ totalRow C s → T (inSpan (C .q) (columns C) (keptRows C reported) (totalRow C s))
+  unfolding inSpan
+  combination-in reported s cs v e =
+      any-list-at (C .q) (length (keptRows C reported)) (λ cs. sameList (comb (C .q) (columns C) cs (keptRows C reported)) (totalRow C s)) cs v
+      (eq→same (comb (C .q) (columns C) cs (keptRows C reported)) (totalRow C s) e)
+
 module _ (C : Network) (ok : Sound C) (reported : ℕ) where
   pos : 0 < C .q
   pos = prime-pos (ok .prime)
@@ -131,12 +146,17 @@ module _ (C : Network) (ok : Sound C) (reported : ℕ) where
       (all-at (C .parts) (λ s. inSpan (C .q) (columns C) (keptRows C reported) (totalRow C s)) t s b) in
       (r .0, same→eq (comb (C .q) (columns C) (chosenList (C .q) (length (keptRows C reported)) test) (keptRows C reported)) (totalRow C s) (r .1))
 
+  -- a combination of independent rows is the only one
+  pub combination-only : (s : ℕ) (cs ds : List ℕ) → Vector (C .q) (length (keptRows C reported)) cs → Vector (C .q) (length (keptRows C reported)) ds
+      → comb (C .q) (columns C) cs (keptRows C reported) ≡ totalRow C s → comb (C .q) (columns C) ds (keptRows C reported) ≡ totalRow C s → cs ≡ ds
+  combination-only s = combination-unique (C .q) (ok .prime) (columns C) (keptRows C reported) kept-vectors rows-independent (totalRow C s)
+
   -- there are no others
   pub coefficients-only : T (decodable C reported) → (s : ℕ) → s < C .parts → (cs : List ℕ) → Vector (C .q) (length (keptRows C reported)) cs
       → comb (C .q) (columns C) cs (keptRows C reported) ≡ totalRow C s → cs ≡ coefficients C reported s
   coefficients-only t s b cs v e =
       let r = coefficients-make t s b in
-      combination-unique (C .q) (ok .prime) (columns C) (keptRows C reported) kept-vectors rows-independent (totalRow C s) cs (coefficients C reported s) v (r .0) e (r .1)
+      combination-only s cs (coefficients C reported s) v (r .0) e (r .1)
 
   -- ---- what is decoded
 

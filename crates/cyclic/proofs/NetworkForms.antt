@@ -1,11 +1,12 @@
 -- What the observers of the cyclic network see is a view by forms, and the server's agreement is one on the total rows.
-use Prim.Native.Nat.{ℕ, _+_, _-_, _*_, _/_, _%_, _≤_, _<_}
+use Prim.Native.Nat.{ℕ, suc, _+_, _-_, _*_, _/_, _%_, _≤_, _<_}
 use mathlib.Core.Path.{_≡_, refl, sym, ap, ap₂, _∙_, subst}
 use mathlib.Core.Bool.{Bool, true, false, cond}
+use mathlib.Core.Logic.{_↔_}
 use mathlib.Core.List.{List, []}
 use native.Mathlib.Nat.{mod-lt, mod-eq-of-lt, add-comm, zero-mul}
 use native.Mathlib.Omega.{arith}
-use lib.Dec.{eqb, ltb}
+use lib.Dec.{T, eqb, ltb, ltb→lt, lt→ltb}
 use lib.Arith.{digits-div, digits-mod}
 use borrow.Author.Tests.{eq-eqb, ne-eqb, lt-ltb, le-ltb}
 use Rattle.residues.proofs.Congruence.{Cong, to-mod, of-eq, of-rem, c-refl, c-sym, c-trans, c-add, c-mul-left, c-mul-right}
@@ -61,6 +62,49 @@ module _ (C : Network) where
   pub heard-relay : (k l : ℕ) → k < C .size → l < C .size → heard C (relayOf C k l) l ≡ k
   unfolding relayOf heard
   heard-relay k l h b = back k l h (omega arith)
+
+  -- the relay of the link that leads to relay j is j, and the link that leads to the relay of link l is l
+  turned : (k j : ℕ) → k < C .size → j < C .size → (k + (C .size - (k + (C .size - j)) % C .size)) % C .size ≡ j
+  turned k j h b =
+      let l : ℕ = (k + (C .size - j)) % C .size in
+      let few : l < C .size = mod-lt (k + (C .size - j)) (omega arith) in
+      to-mod
+      (c-trans (c-add (of-eq (sym (back k j h (omega arith)))) (c-refl {a = C .size - l}))
+      (c-trans (c-add (of-rem (C .size) (l + j)) (c-refl {a = C .size - l}))
+      (record { up = 0; dn = 1; eq = omega arith })))
+      ∙ mod-eq-of-lt b
+
+  pub linked-iff : C .links ≤ C .size → (k j : ℕ) → k < C .size → j < C .size → T (linked C k j) ↔ ((l : ℕ) × (l < C .links) × (relayOf C k l ≡ j))
+  unfolding linked linkOf relayOf
+  linked-iff few k j h b = (
+    (λ t. (linkOf C k j, ltb→lt (linkOf C k j) (C .links) t, turned k j h b)),
+    (λ x.
+        let c : x .0 < C .size = omega (arith, x .1) in
+        lt→ltb (linkOf C k j) (C .links)
+        (subst (λ (z : ℕ). z < C .links)
+        (sym (ap (λ (z : ℕ). (k + (C .size - z)) % C .size) (sym (x .2)) ∙ turned k (x .0) h c)) (x .1))),
+  )
+
+  -- the first link leads to the user's own relay, each other to the relay before that of the link before it
+  pub first-link : (k : ℕ) → k < C .size → relayOf C k 0 ≡ k
+  unfolding relayOf
+  first-link k h = to-mod (record { up = 0; dn = 1; eq = omega arith }) ∙ mod-eq-of-lt h
+
+  pub next-link : (k l : ℕ) → k < C .size → suc l < C .size
+      → ((relayOf C k l ≡ 0) → relayOf C k (suc l) ≡ C .size - 1) × ((j : ℕ) → relayOf C k l ≡ suc j → relayOf C k (suc l) ≡ j)
+  unfolding relayOf
+  next-link k l h b =
+      let r : ℕ = (k + (C .size - l)) % C .size in
+      let c : Cong (C .size) r (k + (C .size - l)) = of-rem (C .size) (k + (C .size - l)) in (
+        (λ z.
+            let d : Cong (C .size) (k + (C .size - suc l)) (C .size - 1)
+            = record { up = c .dn + 1; dn = c .up; eq = omega (arith, c .eq) } in
+            to-mod d ∙ mod-eq-of-lt (omega arith)),
+        (λ j z.
+            let d : Cong (C .size) (k + (C .size - suc l)) j = record { up = c .dn; dn = c .up; eq = omega (arith, c .eq) } in
+            let few : r < C .size = mod-lt (k + (C .size - l)) (omega arith) in
+            to-mod d ∙ mod-eq-of-lt (omega arith)),
+      )
 
   pub heard-user : (j l : ℕ) → 0 < C .size → heard C j l < C .size
   unfolding heard

@@ -1,118 +1,166 @@
--- What the vet's verdict means: it accepts just where no observer leaks, by the counts of source keys, and where it refuses by 7 the observer named leaks and
--- none before it does. (The vet's verdict is `firstOf (vetChecks ..)`, by its promise.)
+-- What the vet's verdict means: it accepts just where no observer leaks, by the counts of source keys, and 7 names the first that does. (The verdict is
+-- `firstOf (vetChecks ..)`, by the vet's promise.)
 use Prim.Native.Nat.{ℕ, zero, suc, _+_, _≤_, _<_}
 use mathlib.Core.Path.{_≡_, refl, sym, ap, _∙_, subst}
-use mathlib.Core.Bool.{Bool, true, false, cond}
-use mathlib.Core.Logic.{⊎-elim}
+use mathlib.Core.Bool.{Bool, true, false}
+use mathlib.Core.Logic.{_≢_, _⊎_, inl, inr, ⊎-elim, _↔_}
 use mathlib.Core.List.{List}
 use native.Mathlib.Nat.{eq-or-lt-of-le}
+use native.Mathlib.Decide.{decLt, ℕ-discrete}
 use native.Mathlib.Omega.{arith}
 use lib.Dec.{T}
 use Rattle.refusals.specs.declared.Code.{Code}
 use Rattle.refusals.specs.Codes.{accepted, firstOf}
-use Rattle.refusals.proofs.CodeLaws.{numbered, NoneHolds, none-holds}
-use Rattle.refusals.proofs.Orders.{first-accepts, rest-decides}
+use Rattle.refusals.proofs.Orders.{first-accepts, rest-decides, lacks, never-given}
 use Rattle.residues.proofs.PrimeLaws.{prime-pos}
-use Rattle.lists.proofs.Searches.{true→T, false→not-T, not-T→false}
+use Rattle.lists.proofs.Searches.{true→T, false→not-T}
 use Rattle.cyclic.specs.Network.{Network}
 use Rattle.cyclic.specs.NetworkLeaks.{ObserverLeak, leaks}
 use Rattle.cyclic.proofs.NetworkVerdicts.{leaks-iff}
+use Rattle.networks.specs.declared.Ring.{Ring}
 use Rattle.networks.specs.Rings.{networkOf, leakChecks, networkChecks, vetChecks, Ready}
 use Rattle.networks.proofs.CheckLaws.{ready-known}
-use Rattle.networks.specs.declared.Ring.{Ring}
+
+abbrev named : ℕ → Code
+named w = record { number = 7; first = 0; second = w }
+
+-- ---- the walk, from relay j + 1 on
 
 module _ (C : Network) where
-  walk-numbered : (k j : ℕ) → T (numbered (leakChecks C k j))
-  walk-numbered zero j = tt
-  walk-numbered (suc k) j = walk-numbered k (suc j)
+  -- no observer of the walk leaks
+  record Quiet (k j : ℕ) : Type 0 where
+    code : firstOf (leakChecks C k j) ≡ accepted
+    server : leaks C 0 ≡ false
+    relays : (v : ℕ) → j < v → v ≤ j + k → leaks C v ≡ false
 
-  -- where none of the checks holds, neither the relays from j on leak nor the server
-  none-leaks : (k j : ℕ) → NoneHolds (leakChecks C k j) → (leaks C 0 ≡ false) × ((i : ℕ) → j ≤ i → i < j + k → leaks C (suc i) ≡ false)
-  none-leaks zero j n = (n .0, λ i a b. absurd (omega arith))
-  none-leaks (suc k) j n =
-      let rest : (leaks C 0 ≡ false) × ((i : ℕ) → suc j ≤ i → i < suc j + k → leaks C (suc i) ≡ false) = none-leaks k (suc j) (n .1) in
-      (rest .0, λ i a b. ⊎-elim (λ e. subst (λ (x : ℕ). leaks C (suc x) ≡ false) e (n .0)) (λ l. rest .1 i l (omega arith)) (eq-or-lt-of-le a))
+  -- w leaks, and none before it
+  record FirstFrom (k j w : ℕ) : Type 0 where
+    code : firstOf (leakChecks C k j) ≡ named w
+    reached : (w ≡ 0) ⊎ ((j < w) × (w ≤ j + k))
+    leaking : leaks C w ≡ true
+    before : (v : ℕ) → j < v → v ≤ j + k → (w ≡ 0) ⊎ (v < w) → leaks C v ≡ false
 
-  -- the other way round
-  all-quiet : (k j : ℕ) → leaks C 0 ≡ false → ((i : ℕ) → j ≤ i → i < j + k → leaks C (suc i) ≡ false) → firstOf (leakChecks C k j) ≡ accepted
-  all-quiet zero j s f = rw s
-  all-quiet (suc k) j s f =
-      let here : leaks C (suc j) ≡ false = f j (omega arith) (omega arith) in
-      rw here (all-quiet k (suc j) s (λ i a b. f i (omega arith) (omega arith)))
-
-  -- what a code of the walk names: an observer that leaks, after relays that do not
-  pub record Named (k j : ℕ) (w : ℕ) : Type 0 where
-    pub leaking : leaks C w ≡ true
-    pub before : (i : ℕ) → j ≤ i → i < j + k → (w ≡ 0 → leaks C (suc i) ≡ false) × (suc i < w → leaks C (suc i) ≡ false)
-
-  named : (k j w : ℕ) → firstOf (leakChecks C k j) ≡ record { number = 7; first = 0; second = w } → Named k j w
-  named zero j w e = go (leaks C 0) refl e
+  walk : (k j : ℕ) → Quiet k j ⊎ ((w : ℕ) × FirstFrom k j w)
+  walk zero j = go (leaks C 0) refl
     where
-      go : (b : Bool) → leaks C 0 ≡ b → cond b (record { number = 7; first = 0; second = 0 }) accepted ≡ record { number = 7; first = 0; second = w } → Named 0 j w
-      go true s f =
-          let z : 0 ≡ w = ap (λ (c : Code). c .second) f in
-          record { leaking = subst (λ (x : ℕ). leaks C x ≡ true) z s; before = λ i a b. absurd (omega arith) }
-      go false s f = absurd (omega (arith, ap (λ (c : Code). c .number) f))
-  named (suc k) j w e = go (leaks C (suc j)) refl e (named k (suc j) w)
+      go : (b : Bool) → leaks C 0 ≡ b → Quiet 0 j ⊎ ((w : ℕ) × FirstFrom 0 j w)
+      go false e = inl (record { code = rw e; server = e; relays = λ v a b. absurd (omega arith) })
+      go true e = inr (0, record { code = rw e; reached = inl refl; leaking = e; before = λ v a b d. absurd (omega arith) })
+  walk (suc k) j = go (leaks C (suc j)) refl (walk k (suc j))
     where
-      go : (b : Bool) → leaks C (suc j) ≡ b
-          → cond b (record { number = 7; first = 0; second = suc j }) (firstOf (leakChecks C k (suc j))) ≡ record { number = 7; first = 0; second = w }
-          → (firstOf (leakChecks C k (suc j)) ≡ record { number = 7; first = 0; second = w } → Named k (suc j) w) → Named (suc k) j w
-      go true s f ih =
-          let z : suc j ≡ w = ap (λ (c : Code). c .second) f in
-          record {
-            leaking = subst (λ (x : ℕ). leaks C x ≡ true) z s;
-            before = λ i a b. ((λ y. absurd (omega arith)), (λ y. absurd (omega arith)));
-          }
-      go false s f ih =
-          let n : Named k (suc j) w = ih f in
-          record {
-            leaking = n .leaking;
-            before = λ i a b.
-                ⊎-elim (λ x. ((λ y. subst (λ (x : ℕ). leaks C (suc x) ≡ false) x s), (λ y. subst (λ (x : ℕ). leaks C (suc x) ≡ false) x s)))
-                (λ l. n .before i l (omega arith)) (eq-or-lt-of-le a);
-          }
+      here : leaks C (suc j) ≡ false → (v : ℕ) → j < v → ((suc j < v) → leaks C v ≡ false) → leaks C v ≡ false
+      here e v a f = ⊎-elim (λ z. subst (λ (x : ℕ). leaks C x ≡ false) z e) f (eq-or-lt-of-le a)
+
+      go : (b : Bool) → leaks C (suc j) ≡ b → Quiet k (suc j) ⊎ ((w : ℕ) × FirstFrom k (suc j) w) → Quiet (suc k) j ⊎ ((w : ℕ) × FirstFrom (suc k) j w)
+      go true e rest =
+          inr (
+            suc j,
+            record {
+              code = rw e;
+              reached = inr (omega arith, omega arith);
+              leaking = e;
+              before = λ v a b d. ⊎-elim (λ z. absurd (omega arith)) (λ l. absurd (omega arith)) d;
+            },
+          )
+      go false e (inl q) =
+          inl (record { code = rw e (q .code); server = q .server; relays = λ v a b. here e v a (λ l. q .relays v l (omega arith)) })
+      go false e (inr (w, f)) =
+          inr (
+            w,
+            record {
+              code = rw e (f .code);
+              reached = ⊎-elim inl (λ r. inr (omega (arith, r .0), omega (arith, r .1))) (f .reached);
+              leaking = f .leaking;
+              before = λ v a b d. here e v a (λ l. f .before v l (omega arith) d);
+            },
+          )
+
+  walk-lacks : (k j : ℕ) → T (lacks 6 (leakChecks C k j))
+  walk-lacks zero j = tt
+  walk-lacks (suc k) j = walk-lacks k (suc j)
 
 module _ (R : Ring) (K A : List ℕ) where
-  -- what the vet accepts leaks nothing, to any gateway or to the desk
-  pub accepted-quiet : accepted ≡ firstOf (vetChecks R K A) → Ready R K A × ((w : ℕ) → w ≤ R .size → ¬ (ObserverLeak (networkOf R K A) w))
-  accepted-quiet e =
-      let first : accepted ≡ firstOf (networkChecks R K A) = first-accepts (networkChecks R K A) (leakChecks (networkOf R K A) (R .size) 0) tt e in
-      let ready : Ready R K A = ready-known R K A first in
-      let last : accepted ≡ firstOf (leakChecks (networkOf R K A) (R .size) 0)
-      = e ∙ sym (rest-decides (networkChecks R K A) (leakChecks (networkOf R K A) (R .size) 0) tt first) in
-      let none : (leaks (networkOf R K A) 0 ≡ false) × ((i : ℕ) → 0 ≤ i → i < 0 + R .size → leaks (networkOf R K A) (suc i) ≡ false)
-      = none-leaks (networkOf R K A) (R .size) 0
-      (none-holds (leakChecks (networkOf R K A) (R .size) 0) (walk-numbered (networkOf R K A) (R .size) 0) last) in
-      (ready, λ w l k. false→not-T (leaks (networkOf R K A) w) (quiet none w l) (leaks-iff (networkOf R K A) (prime-pos (ready .prime)) w .1 k))
-    where
-      quiet : (leaks (networkOf R K A) 0 ≡ false) × ((i : ℕ) → 0 ≤ i → i < 0 + R .size → leaks (networkOf R K A) (suc i) ≡ false)
-          → (w : ℕ) → w ≤ R .size → leaks (networkOf R K A) w ≡ false
-      quiet n zero l = n .0
-      quiet n (suc i) l = n .1 i (omega arith) (omega arith)
+  -- 6 is never given
+  pub no-six : firstOf (vetChecks R K A) .number ≢ 6
+  no-six = never-given 6 (vetChecks R K A) (walk-lacks (networkOf R K A) (R .size) 0)
 
-  -- and what passes the other checks and leaks nothing is accepted
-  pub quiet-accepted : accepted ≡ firstOf (networkChecks R K A) → ((w : ℕ) → w ≤ R .size → ¬ (ObserverLeak (networkOf R K A) w)) → accepted ≡ firstOf (vetChecks R K A)
-  quiet-accepted e quiet =
-      let ready : Ready R K A = ready-known R K A e in
-      let test : (w : ℕ) → w ≤ R .size → leaks (networkOf R K A) w ≡ false
-      = λ w l. not-T→false (leaks (networkOf R K A) w) (λ t. quiet w l (leaks-iff (networkOf R K A) (prime-pos (ready .prime)) w .0 t)) in
-      sym (all-quiet (networkOf R K A) (R .size) 0 (test 0 (omega arith)) (λ i a b. test (suc i) (omega arith)))
-      ∙ rest-decides (networkChecks R K A) (leakChecks (networkOf R K A) (R .size) 0) tt e
+  -- what the vet accepts passes the other checks
+  pub accepted-passes : accepted ≡ firstOf (vetChecks R K A) → accepted ≡ firstOf (networkChecks R K A)
+  accepted-passes e = first-accepts (networkChecks R K A) (leakChecks (networkOf R K A) (R .size) 0) tt e
 
-  -- 7 names the first observer that leaks: gateways in rising order, the desk last
-  pub refused-names-first : accepted ≡ firstOf (networkChecks R K A) → (w : ℕ) → firstOf (vetChecks R K A) ≡ record { number = 7; first = 0; second = w }
-      → ObserverLeak (networkOf R K A) w
-      × ((j : ℕ) → j < R .size → (w ≡ 0 → ¬ (ObserverLeak (networkOf R K A) (suc j))) × (suc j < w → ¬ (ObserverLeak (networkOf R K A) (suc j))))
-  refused-names-first e w f =
-      let ready : Ready R K A = ready-known R K A e in
-      let pos : 0 < R .q = prime-pos (ready .prime) in
-      let n : Named (networkOf R K A) (R .size) 0 w
-      = named (networkOf R K A) (R .size) 0 w (rest-decides (networkChecks R K A) (leakChecks (networkOf R K A) (R .size) 0) tt e ∙ f) in (
-        leaks-iff (networkOf R K A) pos w .0 (true→T (leaks (networkOf R K A) w) (n .leaking)),
-        λ j l.
-            let b = n .before j (omega arith) (omega arith) in (
-              (λ z k. false→not-T (leaks (networkOf R K A) (suc j)) (b .0 z) (leaks-iff (networkOf R K A) pos (suc j) .1 k)),
-              (λ z k. false→not-T (leaks (networkOf R K A) (suc j)) (b .1 z) (leaks-iff (networkOf R K A) pos (suc j) .1 k)),
-            ),
-      )
+  module _ (passed : accepted ≡ firstOf (networkChecks R K A)) where
+    ready : Ready R K A
+    ready = ready-known R K A passed
+
+    leak-test : (w : ℕ) → T (leaks (networkOf R K A) w) ↔ ObserverLeak (networkOf R K A) w
+    leak-test = leaks-iff (networkOf R K A) (prime-pos (ready .prime))
+
+    to-leak : (w : ℕ) → leaks (networkOf R K A) w ≡ true → ObserverLeak (networkOf R K A) w
+    to-leak w e = leak-test w .0 (true→T (leaks (networkOf R K A) w) e)
+
+    no-leak : (w : ℕ) → leaks (networkOf R K A) w ≡ false → ¬ (ObserverLeak (networkOf R K A) w)
+    no-leak w e k = false→not-T (leaks (networkOf R K A) w) e (leak-test w .1 k)
+
+    -- the walk decides
+    walked : firstOf (leakChecks (networkOf R K A) (R .size) 0) ≡ firstOf (vetChecks R K A)
+    walked = rest-decides (networkChecks R K A) (leakChecks (networkOf R K A) (R .size) 0) tt passed
+
+    quiet : Quiet (networkOf R K A) (R .size) 0 → (w : ℕ) → w ≤ R .size → ¬ (ObserverLeak (networkOf R K A) w)
+    quiet q zero l = no-leak zero (q .server)
+    quiet q (suc j) l = no-leak (suc j) (q .relays (suc j) (omega arith) (omega arith))
+
+    -- an accepted network leaks to no observer
+    pub accepted-quiet : accepted ≡ firstOf (vetChecks R K A) → (w : ℕ) → w ≤ R .size → ¬ (ObserverLeak (networkOf R K A) w)
+    accepted-quiet e =
+        ⊎-elim quiet (λ x. absurd (omega (arith, ap (λ (c : Code). c .number) (e ∙ sym walked ∙ x .1 .code)))) (walk (networkOf R K A) (R .size) 0)
+
+    -- 7 just where some observer leaks
+    pub refused-iff : _≡_ {A = ℕ} (firstOf (vetChecks R K A) .number) 7 ↔ ((w : ℕ) × (w ≤ R .size) × ObserverLeak (networkOf R K A) w)
+    refused-iff = go (walk (networkOf R K A) (R .size) 0)
+      where
+        go : Quiet (networkOf R K A) (R .size) 0 ⊎ ((w : ℕ) × FirstFrom (networkOf R K A) (R .size) 0 w)
+            → _≡_ {A = ℕ} (firstOf (vetChecks R K A) .number) 7 ↔ ((w : ℕ) × (w ≤ R .size) × ObserverLeak (networkOf R K A) w)
+        go (inl q) = (
+          (λ n. absurd (omega (arith, n, ap (λ (c : Code). c .number) (sym walked ∙ q .code)))),
+          (λ x. absurd (quiet q (x .0) (x .1) (x .2))),
+        )
+        go (inr (w, f)) = (
+          (λ n. (w, ⊎-elim (λ z. omega arith) (λ r. omega (arith, r .1)) (f .reached), to-leak w (f .leaking))),
+          (λ x. ap (λ (c : Code). c .number) (sym walked ∙ f .code)),
+        )
+
+    -- and it names the first
+    pub named-first : (w : ℕ) → firstOf (vetChecks R K A) ≡ named w
+        → (w ≤ R .size) × ObserverLeak (networkOf R K A) w
+        × ((v : ℕ) → 1 ≤ v → v ≤ R .size → (w ≡ 0) ⊎ (v < w) → ¬ (ObserverLeak (networkOf R K A) v))
+    named-first w e = go (walk (networkOf R K A) (R .size) 0)
+      where
+        go : Quiet (networkOf R K A) (R .size) 0 ⊎ ((w : ℕ) × FirstFrom (networkOf R K A) (R .size) 0 w) → (w ≤ R .size) × ObserverLeak (networkOf R K A) w
+            × ((v : ℕ) → 1 ≤ v → v ≤ R .size → (w ≡ 0) ⊎ (v < w) → ¬ (ObserverLeak (networkOf R K A) v))
+        go (inl q) = absurd (omega (arith, ap (λ (c : Code). c .number) (sym e ∙ sym walked ∙ q .code)))
+        go (inr (x, f)) =
+            let z : x ≡ w = ap (λ (c : Code). c .second) (sym (f .code) ∙ walked ∙ e) in (
+              ⊎-elim (λ y. omega arith) (λ r. omega (arith, r .1)) (f .reached),
+              subst (ObserverLeak (networkOf R K A)) z (to-leak x (f .leaking)),
+              (λ v a b d. no-leak v (f .before v (omega arith) (omega arith) (subst (λ (y : ℕ). (y ≡ 0) ⊎ (v < y)) (sym z) d))),
+            )
+
+    -- the first that leaks is named
+    pub first-named : (w : ℕ) → w ≤ R .size → ObserverLeak (networkOf R K A) w
+        → ((v : ℕ) → 1 ≤ v → v ≤ R .size → (w ≡ 0) ⊎ (v < w) → ¬ (ObserverLeak (networkOf R K A) v)) → firstOf (vetChecks R K A) ≡ named w
+    first-named w h leak none = go (walk (networkOf R K A) (R .size) 0)
+      where
+        go : Quiet (networkOf R K A) (R .size) 0 ⊎ ((w : ℕ) × FirstFrom (networkOf R K A) (R .size) 0 w) → firstOf (vetChecks R K A) ≡ named w
+        go (inl q) = absurd (quiet q w h leak)
+        go (inr (x, f)) = sym walked ∙ f .code ∙ ap named (same (ℕ-discrete x 0) (ℕ-discrete w 0) (decLt x w) (decLt w x))
+          where
+            there : x ≢ 0 → x ≤ R .size
+            there n = ⊎-elim (λ z. absurd (n z)) (λ r. omega (arith, r .1)) (f .reached)
+
+            same : Dec (x ≡ 0) → Dec (w ≡ 0) → Dec (x < w) → Dec (w < x) → x ≡ w
+            same (yes a) (yes b) c d = omega arith
+            same (yes a) (no b) c d = absurd (no-leak w (f .before w (omega arith) (omega arith) (inl a)) leak)
+            same (no a) (yes b) c d = absurd (none x (omega arith) (there a) (inl b) (to-leak x (f .leaking)))
+            same (no a) (no b) (yes c) d = absurd (none x (omega arith) (there a) (inr c) (to-leak x (f .leaking)))
+            same (no a) (no b) (no c) (yes d) = absurd (no-leak w (f .before w (omega arith) (omega arith) (inr d)) leak)
+            same (no a) (no b) (no c) (no d) = omega arith
