@@ -1,7 +1,7 @@
 -- What the decoder's sweep leaves: a total is decodable just where its row ends as 0, and then it is minus the value beside it.
 use Prim.Native.Nat.{ℕ, _+_, _-_, _*_, _/_, _%_, _≤_, _<_}
 use mathlib.Core.Path.{_≡_, refl, sym, ap, ap₂, _∙_, subst}
-use mathlib.Core.Bool.{not, _&&_, _||_}
+use mathlib.Core.Bool.{Bool, true, false, not, _&&_, _||_}
 use mathlib.Core.List.{List, [], _∷_, _++_}
 use native.Mathlib.Nat.{zero-add, sub-zero, mod-lt, mod-eq-of-lt}
 use native.Mathlib.Omega.{arith}
@@ -140,6 +140,19 @@ module _ (R : Ring) (K A : List ℕ) (ready : Ready R K A) (reported : ℕ) (Y :
   decodable-swept =
       all-cong (R .parts) (λ s. not (ltb (pivotOf (rowOf cols (after (R .size)) s)) cols))
       (λ s. inSpan (R .q) cols (keptRows (networkOf R K A) reported) (totalRow (networkOf R K A) s)) ends-zero
+
+  -- a relay is kept just where its row is not 0 when its turn comes
+  pub kept-swept : (j : ℕ) → j < R .size → kept (networkOf R K A) reported j ≡ (hasBit reported j && ltb (pivotOf (rowOf cols (after j) (R .parts + j))) cols)
+  unfolding kept
+  kept-swept j l =
+      ap (λ (b : Bool). hasBit reported j && not b)
+      (sym (pivot-left (R .q) (ready .prime) rows cols (R .parts) (hasBit reported) start start-table j (R .parts + j) (omega arith) (omega arith)
+      ∙ ap₂ (λ (S : List (List ℕ)) (r : List ℕ). inSpan (R .q) cols S r) (swept-rows j (omega arith)) (relay-here j l)))
+      ∙ ap (λ (b : Bool). hasBit reported j && b) (twice (ltb (pivotOf (rowOf cols (after j) (R .parts + j))) cols))
+    where
+      twice : (b : Bool) → not (not b) ≡ b
+      twice true = refl
+      twice false = refl
 
   -- ---- decoded
 
