@@ -15,7 +15,7 @@ use Rattle.refusals.specs.declared.Code.{Code}
 use Rattle.refusals.specs.Codes.{code, accepted, firstOf, ifAccepted}
 use Rattle.refusals.proofs.CodeLaws.{none-holds}
 use Rattle.residues.specs.Primes.{allBelow}
-use Rattle.lists.proofs.Searches.{true→T, one-known}
+use Rattle.lists.proofs.Searches.{true→T, all-cong, one-known}
 use Rattle.residues.proofs.Congruence.{c-refl, c-add, of-rem, to-mod}
 use Rattle.residues.proofs.PrimeLaws.{prime-pos, below-at}
 use Rattle.lists.specs.Lists.{at, tab}
@@ -30,7 +30,7 @@ use Rattle.rounds.specs.Rounds.{stepped, giveCode, sumsAfter, answersOf,
 use Rattle.rounds.proofs.CheckLaws.{good-state, Passed, frame-known}
 use Rattle.rounds.proofs.FitSums.{sums-fit}
 use Rattle.rounds.proofs.ReportedLaws.{bit-added, added-below}
-use Rattle.rounds.proofs.StepLaws.{all-cong, or-none, past-zero}
+use Rattle.rounds.proofs.StepLaws.{or-none, past-zero}
 use Rattle.plans.specs.Plans.{maxLength}
 
 -- ---- a ledger with one frame more

@@ -15,7 +15,7 @@ use borrow.Author.Tests.{not-false, eq-eqb, ne-eqb, lt-ltb}
 use Rattle.refusals.specs.Codes.{code, accepted, firstOf}
 use Rattle.refusals.proofs.CodeLaws.{none-holds, accepted-takes}
 use Rattle.refusals.proofs.Orders.{rest-decides, number-accepts}
-use Rattle.lists.proofs.Searches.{T→true, true→T, all-at}
+use Rattle.lists.proofs.Searches.{T→true, true→T, all-at, all-cong}
 use Rattle.residues.proofs.PrimeLaws.{prime-pos}
 use Rattle.lists.specs.Lists.{at, All, zeros, tab}
 use Rattle.lists.specs.Sums.{sumTo}
@@ -28,7 +28,7 @@ use Rattle.rounds.specs.Rounds.{openChecks, opened, after, isFull, state
 use Rattle.rounds.specs.Rounds.{noted, ledgerOf}
 use Rattle.rounds.proofs.CheckLaws.{opening-known, Passed, frame-known}
 use Rattle.rounds.proofs.ReportedLaws.{no-bits}
-use Rattle.rounds.proofs.StepLaws.{all-cong, or-none}
+use Rattle.rounds.proofs.StepLaws.{or-none}
 use Rattle.rounds.proofs.LedgerLaws.{named-more, counted-more, good-run, ledger-give}
 use Rattle.rounds.proofs.Zeros.{zeros-fit}
 use Rattle.plans.specs.Plans.{maxLength}

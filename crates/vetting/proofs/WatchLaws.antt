@@ -13,7 +13,7 @@ use lib.Dec.{lit<, eqb, ltb, leb, ltb→lt}
 use lib.Pow.{pow-add}
 use borrow.Author.Tests.{eq-eqb, ne-eqb, lt-ltb, le-ltb, le-leb, lt-leb}
 use Rattle.lists.specs.Search.{anyTo, allTo}
-use Rattle.lists.proofs.Searches.{T-and, any-found, not-T→false}
+use Rattle.lists.proofs.Searches.{T-and, any-found, not-T→false, all-cong}
 use Rattle.lists.specs.Bits.{hasBit}
 use Rattle.lists.specs.Lists.{picked}
 use Rattle.secrecy.specs.Model.{Pool, users, inCoalition, inCluster, inEither}
@@ -30,11 +30,6 @@ unfolding hasBit
 shifted-bit g a v =
     ap (λ (z : ℕ). eqb (z % 2) 1) (div-div-eq-div-mul g (2 ^ a) (2 ^ v) ∙ ap (λ (z : ℕ). g / z) (sym (pow-add 2 a v)))
 
-all-cong : (n : ℕ) (f h : ℕ → Bool) → ((k : ℕ) → f k ≡ h k) → allTo n f ≡ allTo n h
-unfolding allTo
-all-cong zero f h e = refl
-all-cong (suc n) f h e = ap₂ _&&_ (all-cong n f h e) (e n)
-
 any-cong : (n : ℕ) (f h : ℕ → Bool) → ((k : ℕ) → f k ≡ h k) → anyTo n f ≡ anyTo n h
 unfolding anyTo
 any-cong zero f h e = refl
@@ -44,7 +39,7 @@ outsider-is : (P : Pool) (g u : ℕ) → outsiderIn (P .size) g u ≡ hasOutside
 unfolding hasOutsider
 outsider-is P g u =
     ap not (all-ones (g / 2 ^ (u * P .size)) (P .size)
-    ∙ all-cong (P .size) (inCoalition (g / 2 ^ (u * P .size))) (λ v. inCoalition g (u * P .size + v)) (shifted-bit g (u * P .size)))
+    ∙ all-cong (P .size) (inCoalition (g / 2 ^ (u * P .size))) (λ v. inCoalition g (u * P .size + v)) (λ v _. shifted-bit g (u * P .size) v))
 
 -- ---- those before the last of them
 

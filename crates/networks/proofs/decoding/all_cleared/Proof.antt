@@ -9,7 +9,7 @@ use lib.Dec.{ltb}
 use native.Mathlib.Nat.{le-refl}
 use Rattle.matrices.specs.Tables.{rowOf, pivotOf}
 use Rattle.residues.specs.Primes.{allBelow}
-use Rattle.lists.proofs.Searches.{all-more, all-fails}
+use Rattle.lists.proofs.Searches.{all-next, all-fails}
 use Rattle.lists.proofs.Fronts.{length-part}
 use Rattle.networks.proofs.ValueLaws.{cells-few, row-ends, part-row, cleared-is}
 use Rattle.lists.specs.Search.{allTo}
@@ -67,7 +67,7 @@ unfolding test
 returns c =
     let a = c .before .before .before .before .before .before .args in
     let l = c .before .before .before .before .loop in
-    sym (all-fails (a .n) (test (a .cols) (a .table .now)) (l .s) (c .before .before .before .loop-test .taken)
+    sym (all-fails (test (a .cols) (a .table .now)) (l .s) (a .n) (c .before .before .before .loop-test .taken)
     (cleared-is (a .cols) (rowOf (a .cols) (a .table .now) (l .s)) (length-part (a .cols) (l .s * a .cols) (a .table .now) (ends (c .before .before .before))) false
     (sym (not-true _ (c .if1 .taken)) ∙ c .before .all-below .ensures ∙ ap (allBelow 1) (part-row (a .cols) (l .s) (a .table .now)))))
 
@@ -83,7 +83,7 @@ loop-again c =
     let a = c .before .before .before .before .before .before .args in
     let l = c .before .before .before .before .loop in (
       omega (arith, c .before .before .before .loop-test .taken),
-      all-more (l .s) (test (a .cols) (a .table .now)) (l .inv .1)
+      all-next (test (a .cols) (a .table .now)) (l .s) (l .inv .1)
           (cleared-is (a .cols) (rowOf (a .cols) (a .table .now) (l .s)) (length-part (a .cols) (l .s * a .cols) (a .table .now) (ends (c .before .before .before)))
           true (sym (not-false _ (c .if1 .left)) ∙ c .before .all-below .ensures ∙ ap (allBelow 1) (part-row (a .cols) (l .s) (a .table .now)))),
     )

@@ -10,7 +10,7 @@ use lib.Dec.{ltb}
 use Rattle.lists.specs.Bits.{hasBit}
 use Rattle.lists.specs.Search.{allTo}
 use Rattle.lists.specs.Lists.{at}
-use Rattle.lists.proofs.Searches.{all-more, all-fails}
+use Rattle.lists.proofs.Searches.{all-next, all-fails}
 use Rattle.networks.proofs.ValueLaws.{came-yes, came-not, came-no}
 use Rattle.networks.proofs.decoding.arrived_below.Statement.{statement}
 use Rattle.networks.proofs.decoding.arrived_below.Tie as tie
@@ -41,7 +41,8 @@ returns : tie.Need-returns Inv-loop μ-loop
 unfolding test
 returns c =
     let a = c .before .before .before .before .before .before .before .args in
-    sym (all-fails (a .count) (test (a .q) (a .reported) (a .sums .now)) (c .before .before .before .before .before .loop .j) (c .before .before .before .before .loop-test .taken)
+    sym (all-fails (test (a .q) (a .reported) (a .sums .now)) (c .before .before .before .before .before .loop .j) (a .count)
+    (c .before .before .before .before .loop-test .taken)
     (came-no _ _ (sym (c .before .before .before .has-arrived .ensures) ∙ c .before .before .if1 .taken) (le-ltb _ _ (c .if2 .taken))))
 
 add-j : tie.Need-add-j Inv-loop μ-loop
@@ -56,7 +57,7 @@ loop-again c =
     let l = c .before .before .before .loop in
     let a = c .before .before .before .before .before .args in (
       omega (arith, c .before .before .loop-test .taken),
-      all-more (l .j) (test (a .q) (a .reported) (a .sums .now)) (l .inv .1)
+      all-next (test (a .q) (a .reported) (a .sums .now)) (l .j) (l .inv .1)
           (⊎-elim
           (λ w. came-yes (hasBit (a .reported) (l .j)) (ltb (at (a .sums .now) (l .j)) (a .q)) (lt-ltb _ _ (w .2 .left)))
           (λ w. came-not (hasBit (a .reported) (l .j)) (ltb (at (a .sums .now) (l .j)) (a .q)) (sym (c .before .has-arrived .ensures) ∙ w .left))
