@@ -153,6 +153,7 @@ impl Stock {
             };
         }
         let at = self.position();
+        // It is not refused: what was checked leaves at least so many symbols.
         let taken = draw_at(stream, at, length, out);
         StockStep {
             answer,

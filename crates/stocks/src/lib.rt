@@ -5,7 +5,7 @@ mod soundness;
 
 use refusals::Verdict;
 
-// The number of pools, and for each its reserve (document 02: sure share), its limit and what it has drawn, in symbols: 0 past the pools.
+// The number of pools, and for each its reserve, its limit and what it has drawn, in symbols: 0 past the pools.
 pub struct Stock {
     pub pools: usize,
     pub reserves: [usize; Stock::MAX_POOLS],

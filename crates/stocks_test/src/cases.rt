@@ -139,9 +139,9 @@ pub fn drawn_stock(case: usize) -> usize {
 }
 
 pub fn small_stock(case: usize) -> usize {
-    let reserves: [usize; 8] = [case % 4, case / 4 % 4, 0, 0, 0, 0, 0, 0];
-    let limits: [usize; 8] = [case / 16 % 4, case / 64 % 4, 0, 0, 0, 0, 0, 0];
-    let drawn: [usize; 8] = [case / 256 % 4, case / 1024 % 4, 0, 0, 0, 0, 0, 0];
+    let reserves: [usize; Stock::MAX_POOLS] = [case % 4, case / 4 % 4, 0, 0, 0, 0, 0, 0];
+    let limits: [usize; Stock::MAX_POOLS] = [case / 16 % 4, case / 64 % 4, 0, 0, 0, 0, 0, 0];
+    let drawn: [usize; Stock::MAX_POOLS] = [case / 256 % 4, case / 1024 % 4, 0, 0, 0, 0, 0, 0];
     let stock = Stock {
         pools: 2,
         reserves,
