@@ -35,13 +35,13 @@ module _ (P : Plan) (K : List ℕ) where
 
   -- "For one accepted plan and any run of rounds, each with a key block of its own, let two days' readings, none of them refused with 15, agree on one gang's
   -- members in each round and, for the desk, on each round's total modulo the prime. The number of runs of key blocks that give a stated day's sight is then
-  -- equal."; "Both days follow one list of openings, frames, resent frames, moves on and sums asked for, fixed without the readings": any schedule. It is so of
-  -- every test of the view, and that a view is a stated one is such a test (`StatedViews`). Of each round is seen, besides what comes, what the coalition knows;
-  -- or all that is sent in it. First of readings that are any symbols, as demand 3 is:
+  -- equal."; "Both days follow one list of openings, frames, resent frames, moves on and sums asked for, fixed without the readings; a frame carries its
+  -- sender's upload (for the desk, gateway sum) of its round, resent unchanged.": any schedule. It is so of every test of the view, and that a view is a stated
+  -- one is such a test (`StatedViews`). Of each round is seen, besides what comes, what the coalition knows; or all that is sent in it. First of readings that
+  -- are any symbols, as demand 3 is:
   abbrev pub EqualDays : Type 0
   EqualDays =
-      accepted ≡ vetCode P K
-      → (g w : ℕ) → InWalk P g w
+      accepted ≡ vetCode P K → (g w : ℕ) → InWalk P g w
       → (run : Run) → Lengths run
       → (schedule : List (Entry (machineOf pool w .Call))) (test : DayView (machineOf pool w) → Bool)
       → (W W′ : ℕ → List ℕ) → DaysAgree pool run (Agrees pool g w) W W′
@@ -53,8 +53,8 @@ module _ (P : Plan) (K : List ℕ) where
   -- then of readings as they are signed, in whatever cap 16 doesn't refuse; a frame carries what `signed_upload` writes
   abbrev pub SignedEqualDays : Type 0
   SignedEqualDays =
-      (m : ℕ) → capFits P m ≡ true → accepted ≡ vetCode P K
-      → (g w : ℕ) → InWalk P g w
+      (m : ℕ) → capFits P m ≡ true
+      → accepted ≡ vetCode P K → (g w : ℕ) → InWalk P g w
       → (run : Run) → Lengths run
       → (schedule : List (Entry (machineOf pool w .Call))) (test : DayView (machineOf pool w) → Bool)
       → (R R′ : ℕ → List ℤ) → SignedDaysAgree pool run m (SignedAgrees pool g w) R R′
