@@ -1,16 +1,16 @@
 -- Request Q-12 at the small pool: a day of relay 1 and one of the server, of two rounds, with what is seen of each; and days that differ and may not be told
 -- apart. Then a day of signed readings, at a pool whose q leaves room for a cap.
-use Prim.Native.Nat.{ℕ, zero, suc, _+_, _<_}
+use Prim.Native.Nat.{ℕ, zero, suc, _+_, _%_, _<_}
 use mathlib.Core.Path.{_≡_, refl, sym}
 use mathlib.Core.Bool.{Bool}
 use mathlib.Core.List.{List, [], _∷_, map}
 use native.Mathlib.Omega.{arith}
-use lib.Dec.{T}
+use lib.Dec.{T, eqb}
 use lib.IntN.{ℤ, pos, negsuc}
-use lib.ListN.{length}
+use lib.ListN.{length, getD}
 use Rattle.refusals.specs.Codes.{code, accepted}
 use Rattle.lists.specs.Bits.{hasBit}
-use Rattle.lists.specs.Lists.{tab, joinTo, picked}
+use Rattle.lists.specs.Lists.{at, tab, joinTo, picked}
 use Rattle.lists.specs.Search.{allTo}
 use Rattle.lists.specs.Sums.{sumTo, howMany}
 use Rattle.residues.specs.Primes.{isPrime, allBelow}
@@ -18,6 +18,7 @@ use Rattle.residues.specs.Field.{inverseBelow}
 use Rattle.residues.proofs.PrimeLaws.{below-at}
 use Rattle.matrices.specs.Tables.{pivotOf, scaled, fused, cleared, eachRow, eliminatedFrom, pivotsFrom}
 use Rattle.secrecy.specs.Model.{Pool, columnSum, inCoalition, reading, key, upload, total, blocks, known, view}
+use Rattle.secrecy.specs.Counts.{count}
 use Rattle.secrecy.specs.Leaks.{Symbols, Agree, ServerAgree}
 use Rattle.plans.specs.Plans.{plan}
 use Rattle.vetting.specs.Pools.{poolOf}
@@ -31,7 +32,7 @@ use Rattle.signed.specs.Numbers.{symbolOf, signedReading}
 use Rattle.signed.specs.Caps.{allInCap}
 use Rattle.signed.specs.SignedLeaks.{SignedAgree, SignedServerAgree, Capped}
 use Rattle.days.specs.Runs.{Run, Lengths, seenOf, sentIn}
-use Rattle.days.specs.Machines.{Entry, sends, calls, replies}
+use Rattle.days.specs.Machines.{Machine, Entry, sends, calls, replies}
 use Rattle.days.specs.Observers.{RelayCall, opens, event, ServerCall, begins, counts, gives, machineOf}
 use Rattle.days.specs.Days.{DayView, dayView, signedDayView, runsShowing}
 use Rattle.demands.proofs.WholeDay.{equal-days, signed-equal-days}
@@ -309,3 +310,37 @@ signed-alike schedule test =
           (signed-same (signed-readings 1) (signed-others 1) refl);
     })
     .1
+
+-- ---- what is asked of the days is needed: where it fails, a stated thing has unequal numbers
+
+-- two relays of one user each, q 3, and one round
+abbrev tiny : Pool
+tiny = poolOf (plan 2 1 0 1 3) (1 ∷ 2 ∷ [])
+
+abbrev one : Run
+one = record { rounds = 1; number = λ k. 7; length = λ k. 1 }
+
+-- the first symbol that call c, from 0, gave out
+abbrev given : {M : Machine} → ℕ → DayView M → ℕ
+given c v = at (getD (v .1 .told) c (accepted, []) .1) 0
+
+-- on the total: the server sees it
+abbrev total-0 : (ℕ → List ℕ) → ℕ
+total-0 W =
+    runsShowing tiny one
+    (dayView tiny one 0 (calls (begins 7 1) ∷ sends 0 1 ∷ sends 0 2 ∷ calls (gives (9 ∷ [])) ∷ []) (known tiny 0) W)
+    (λ v. eqb (given {M = machineOf tiny 0} 3 v) 0)
+
+pub totals-tell : (total-0 (λ k. 0 ∷ 0 ∷ []) ≡ 3) × (total-0 (λ k. 1 ∷ 0 ∷ []) ≡ 0)
+unfolding runsShowing count replies sentIn seenOf known blocks picked joinTo upload key reading sumTo tab isPrime allBelow allTo hasBit named bitsOf countedAt
+totals-tell = (refl, refl)
+
+-- a coalition within the limit: here it is 0, and user 2, whose key is twice user 1's, tells relay 1 the reading of user 1
+abbrev reading-0 : (ℕ → List ℕ) → ℕ
+reading-0 W =
+    runsShowing tiny one (dayView tiny one 1 (calls (opens 7 1) ∷ sends 0 1 ∷ calls (event (asks (9 ∷ []))) ∷ []) (known tiny 2) W)
+    (λ v. eqb ((given {M = machineOf tiny 1} 2 v + at (getD (v .0) 0 []) 1) % 3) 0)
+
+pub coalition-tells : (reading-0 (λ k. 0 ∷ 0 ∷ []) ≡ 3) × (reading-0 (λ k. 1 ∷ 0 ∷ []) ≡ 0)
+unfolding runsShowing count replies sentIn seenOf known blocks picked joinTo upload key reading sumTo tab isPrime allBelow allTo hasBit named bitsOf countedAt
+coalition-tells = (refl, refl)
