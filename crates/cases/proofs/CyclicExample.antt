@@ -120,62 +120,74 @@ module _ (x : ℕ) (r : Ready exampleRing exampleTable (exampleWeights x)) where
       (sym (grid-rank exampleRing exampleTable (exampleWeights x) r 0 2 10 (lit< tt) 5 3 refl refl) ∙ f)
 
 mended-relay-1 : leaks mended 1 ≡ false
-unfolding pivots pivotsFrom eliminatedFrom pivotOf scaled fused cleared eachRow inverseBelow gridOf tab uploadEntry relayEntry totalEntry weight onReading onSource
+unfolding pivots pivotsFrom eliminatedFrom pivotOf scaled fused cleared eachRow inverseBelow gridOf tab uploadEntry relayEntry totalEntry weight onReading
+    onSource
     linked linkOf heard sumTo
 mended-relay-1 = relay-verdict 10 ready-mended 0 3 3 refl refl
 
 mended-relay-2 : leaks mended 2 ≡ false
-unfolding pivots pivotsFrom eliminatedFrom pivotOf scaled fused cleared eachRow inverseBelow gridOf tab uploadEntry relayEntry totalEntry weight onReading onSource
+unfolding pivots pivotsFrom eliminatedFrom pivotOf scaled fused cleared eachRow inverseBelow gridOf tab uploadEntry relayEntry totalEntry weight onReading
+    onSource
     linked linkOf heard sumTo
 mended-relay-2 = relay-verdict 10 ready-mended 1 3 3 refl refl
 
 mended-relay-3 : leaks mended 3 ≡ false
-unfolding pivots pivotsFrom eliminatedFrom pivotOf scaled fused cleared eachRow inverseBelow gridOf tab uploadEntry relayEntry totalEntry weight onReading onSource
+unfolding pivots pivotsFrom eliminatedFrom pivotOf scaled fused cleared eachRow inverseBelow gridOf tab uploadEntry relayEntry totalEntry weight onReading
+    onSource
     linked linkOf heard sumTo
 mended-relay-3 = relay-verdict 10 ready-mended 2 3 3 refl refl
 
 mended-relay-4 : leaks mended 4 ≡ false
-unfolding pivots pivotsFrom eliminatedFrom pivotOf scaled fused cleared eachRow inverseBelow gridOf tab uploadEntry relayEntry totalEntry weight onReading onSource
+unfolding pivots pivotsFrom eliminatedFrom pivotOf scaled fused cleared eachRow inverseBelow gridOf tab uploadEntry relayEntry totalEntry weight onReading
+    onSource
     linked linkOf heard sumTo
 mended-relay-4 = relay-verdict 10 ready-mended 3 3 3 refl refl
 
 mended-relay-5 : leaks mended 5 ≡ false
-unfolding pivots pivotsFrom eliminatedFrom pivotOf scaled fused cleared eachRow inverseBelow gridOf tab uploadEntry relayEntry totalEntry weight onReading onSource
+unfolding pivots pivotsFrom eliminatedFrom pivotOf scaled fused cleared eachRow inverseBelow gridOf tab uploadEntry relayEntry totalEntry weight onReading
+    onSource
     linked linkOf heard sumTo
 mended-relay-5 = relay-verdict 10 ready-mended 4 3 3 refl refl
 
 printed-relay-1 : leaks printed 1 ≡ false
-unfolding pivots pivotsFrom eliminatedFrom pivotOf scaled fused cleared eachRow inverseBelow gridOf tab uploadEntry relayEntry totalEntry weight onReading onSource
+unfolding pivots pivotsFrom eliminatedFrom pivotOf scaled fused cleared eachRow inverseBelow gridOf tab uploadEntry relayEntry totalEntry weight onReading
+    onSource
     linked linkOf heard sumTo
 printed-relay-1 = relay-verdict 3 ready-printed 0 3 3 refl refl
 
 printed-relay-2 : leaks printed 2 ≡ false
-unfolding pivots pivotsFrom eliminatedFrom pivotOf scaled fused cleared eachRow inverseBelow gridOf tab uploadEntry relayEntry totalEntry weight onReading onSource
+unfolding pivots pivotsFrom eliminatedFrom pivotOf scaled fused cleared eachRow inverseBelow gridOf tab uploadEntry relayEntry totalEntry weight onReading
+    onSource
     linked linkOf heard sumTo
 printed-relay-2 = relay-verdict 3 ready-printed 1 3 3 refl refl
 
 printed-relay-3 : leaks printed 3 ≡ false
-unfolding pivots pivotsFrom eliminatedFrom pivotOf scaled fused cleared eachRow inverseBelow gridOf tab uploadEntry relayEntry totalEntry weight onReading onSource
+unfolding pivots pivotsFrom eliminatedFrom pivotOf scaled fused cleared eachRow inverseBelow gridOf tab uploadEntry relayEntry totalEntry weight onReading
+    onSource
     linked linkOf heard sumTo
 printed-relay-3 = relay-verdict 3 ready-printed 2 3 3 refl refl
 
 printed-relay-4 : leaks printed 4 ≡ false
-unfolding pivots pivotsFrom eliminatedFrom pivotOf scaled fused cleared eachRow inverseBelow gridOf tab uploadEntry relayEntry totalEntry weight onReading onSource
+unfolding pivots pivotsFrom eliminatedFrom pivotOf scaled fused cleared eachRow inverseBelow gridOf tab uploadEntry relayEntry totalEntry weight onReading
+    onSource
     linked linkOf heard sumTo
 printed-relay-4 = relay-verdict 3 ready-printed 3 3 3 refl refl
 
 printed-relay-5 : leaks printed 5 ≡ false
-unfolding pivots pivotsFrom eliminatedFrom pivotOf scaled fused cleared eachRow inverseBelow gridOf tab uploadEntry relayEntry totalEntry weight onReading onSource
+unfolding pivots pivotsFrom eliminatedFrom pivotOf scaled fused cleared eachRow inverseBelow gridOf tab uploadEntry relayEntry totalEntry weight onReading
+    onSource
     linked linkOf heard sumTo
 printed-relay-5 = relay-verdict 3 ready-printed 4 3 3 refl refl
 
 mended-server : leaks mended 0 ≡ false
-unfolding pivots pivotsFrom eliminatedFrom pivotOf scaled fused cleared eachRow inverseBelow gridOf tab uploadEntry relayEntry totalEntry weight onReading onSource
+unfolding pivots pivotsFrom eliminatedFrom pivotOf scaled fused cleared eachRow inverseBelow gridOf tab uploadEntry relayEntry totalEntry weight onReading
+    onSource
     linked linkOf heard sumTo
 mended-server = server-verdict 10 ready-mended 4 2 refl refl
 
 printed-server : leaks printed 0 ≡ true
-unfolding pivots pivotsFrom eliminatedFrom pivotOf scaled fused cleared eachRow inverseBelow gridOf tab uploadEntry relayEntry totalEntry weight onReading onSource
+unfolding pivots pivotsFrom eliminatedFrom pivotOf scaled fused cleared eachRow inverseBelow gridOf tab uploadEntry relayEntry totalEntry weight onReading
+    onSource
     linked linkOf heard sumTo
 printed-server = server-verdict 3 ready-printed 5 2 refl refl
 

@@ -52,7 +52,8 @@ module _ (C : Network) where
   unfolding totalRow
   total-shows W N s b =
       ap (λ (z : ℕ). z % C .q)
-      (dot-append (totalOn C s) (zeros (C .rate)) (readingsAt (symbols C) 1 W 0) (sourceAt (C .rate) N 0) (length-tab (symbols C) _ ∙ sym (length-tab (symbols C) _))
+      (dot-append (totalOn C s) (zeros (C .rate)) (readingsAt (symbols C) 1 W 0) (sourceAt (C .rate) N 0)
+      (length-tab (symbols C) _ ∙ sym (length-tab (symbols C) _))
       ∙ ap (λ (z : ℕ). dotN (totalOn C s) (readingsAt (symbols C) 1 W 0) + z) (dot-zeros (C .rate) (sourceAt (C .rate) N 0))
       ∙ add-zero (dotN (totalOn C s) (readingsAt (symbols C) 1 W 0)))
       ∙ dot-total C W N s b
@@ -94,7 +95,8 @@ module _ (C : Network) where
       → (cs : List ℕ) × Vector (C .q) (length (keptRows C reported)) cs × (comb (C .q) (columns C) cs (keptRows C reported) ≡ totalRow C s)
   unfolding inSpan
   combination-found reported s t =
-      let (cs, v, u) = any-list-found (C .q) (length (keptRows C reported)) (λ cs. sameList (comb (C .q) (columns C) cs (keptRows C reported)) (totalRow C s)) t in
+      let (cs, v, u) = any-list-found (C .q) (length (keptRows C reported))
+      (λ cs. sameList (comb (C .q) (columns C) cs (keptRows C reported)) (totalRow C s)) t in
       (cs, v, same→eq (comb (C .q) (columns C) cs (keptRows C reported)) (totalRow C s) u)
 
   pub combination-in : (reported s : ℕ) (cs : List ℕ) → Vector (C .q) (length (keptRows C reported)) cs
@@ -137,11 +139,13 @@ module _ (C : Network) (ok : Sound C) (reported : ℕ) where
 
   -- of each total symbol that is decodable
   pub coefficients-make : T (decodable C reported) → (s : ℕ) → s < C .parts
-      → Vector (C .q) (length (keptRows C reported)) (coefficients C reported s) × (comb (C .q) (columns C) (coefficients C reported s) (keptRows C reported) ≡ totalRow C s)
+      → Vector (C .q) (length (keptRows C reported)) (coefficients C reported s) ×
+      (comb (C .q) (columns C) (coefficients C reported s) (keptRows C reported) ≡ totalRow C s)
   unfolding decodable coefficients inSpan
   coefficients-make t s b =
       let test : List ℕ → Bool = λ cs. sameList (comb (C .q) (columns C) cs (keptRows C reported)) (totalRow C s) in
-      let r : Vector (C .q) (length (keptRows C reported)) (chosenList (C .q) (length (keptRows C reported)) test) × T (test (chosenList (C .q) (length (keptRows C reported)) test))
+      let r : Vector (C .q) (length (keptRows C reported)) (chosenList (C .q) (length (keptRows C reported)) test) × T
+      (test (chosenList (C .q) (length (keptRows C reported)) test))
       = chosen-list-found (C .q) (length (keptRows C reported)) test
       (all-at (C .parts) (λ s. inSpan (C .q) (columns C) (keptRows C reported) (totalRow C s)) t s b) in
       (r .0, same→eq (comb (C .q) (columns C) (chosenList (C .q) (length (keptRows C reported)) test) (keptRows C reported)) (totalRow C s) (r .1))
@@ -223,7 +227,9 @@ module _ (C : Network) (ok : Sound C) (reported : ℕ) where
       (λ k l. let e : 0 * C .rate + k ≡ k = omega arith in ap (at (zeros (C .rate))) e))
 
   dot-none : (r : List ℕ) → dot (C .q) r (world C (zeros (symbols C)) (zeros (C .rate))) ≡ 0
-  dot-none r = ap (dot (C .q) r) (no-world ∙ zeros-append (symbols C) (C .rate)) ∙ ap (λ (z : ℕ). z % C .q) (dot-zeroed r (symbols C + C .rate)) ∙ zero-mod (C .q)
+  dot-none r =
+      ap (dot (C .q) r) (no-world ∙ zeros-append (symbols C) (C .rate)) ∙ ap (λ (z : ℕ). z % C .q) (dot-zeroed r (symbols C + C .rate)) ∙ zero-mod
+      (C .q)
     where
       zeros-append : (a b : ℕ) → zeros a ++ zeros b ≡ zeros (a + b)
       zeros-append a b = go a
@@ -259,7 +265,8 @@ module _ (C : Network) (ok : Sound C) (reported : ℕ) where
         s,
         b,
         twins-of s b
-            (⊎-elim (λ w. absurd (out (in-span-iff (C .q) (columns C) pos (keptRows C reported) (totalRow C s) kept-vectors .1 (leaving-out (totalRow C s) .1 w)))) (λ m. m)
+            (⊎-elim (λ w. absurd (out (in-span-iff (C .q) (columns C) pos (keptRows C reported) (totalRow C s) kept-vectors .1
+            (leaving-out (totalRow C s) .1 w)))) (λ m. m)
             (duality (C .q) (ok .prime) (columns C) arrivedRows (totalRow C s)
             (before-vectors (C .q) (ok .prime) (columns C) (hasBit reported) (relayRow C) (relay-row-vector C ok) (C .size)) (total-row-vector C ok s))),
       )

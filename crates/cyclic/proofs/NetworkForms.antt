@@ -155,7 +155,8 @@ module _ (C : Network) where
     unfolding reading w
     dot-readings f =
         dot-grid (C .size) (C .parts) f (λ i. at W (i * 1 + 0))
-        ∙ sum-cong (C .size) (λ k. sumTo (C .parts) (λ s. f k s * at W ((k * C .parts + s) * 1 + 0))) (λ k. sumTo (C .parts) (λ s. f k s * at W (k * C .parts + s)))
+        ∙ sum-cong (C .size) (λ k. sumTo (C .parts) (λ s. f k s * at W ((k * C .parts + s) * 1 + 0)))
+        (λ k. sumTo (C .parts) (λ s. f k s * at W (k * C .parts + s)))
         (λ k l. sum-cong (C .parts) (λ s. f k s * at W ((k * C .parts + s) * 1 + 0)) (λ s. f k s * at W (k * C .parts + s))
         (λ s b. let e : (k * C .parts + s) * 1 + 0 ≡ k * C .parts + s = omega arith in ap (λ (z : ℕ). f k s * at W z) e))
 

@@ -78,7 +78,8 @@ module _ (C : Network) where
   pub leaks-iff : 0 < C .q → (w : ℕ) → T (leaks C w) ↔ ObserverLeak C w
   unfolding leaks
   leaks-iff pos w =
-      found-at-iff (C .q) (symbols C) (C .rate) (λ _. agree C w) (λ _. Agrees C w) (λ _. agree-iff w) (λ _. places C w) (λ _. view C w) 1 (omega arith) (omega arith)
+      found-at-iff (C .q) (symbols C) (C .rate) (λ _. agree C w) (λ _. Agrees C w) (λ _. agree-iff w) (λ _. places C w) (λ _. view C w) 1 (omega arith)
+      (omega arith)
       (view-places pos w)
 
 module _ (C : Network) (ok : Sound C) where
@@ -142,7 +143,8 @@ module _ (C : Network) (ok : Sound C) where
   first : List ℕ → List ℕ
   first d = tab (symbols C) (λ c. cond (ltb c (C .parts)) (at d c) 0)
 
-  first-reading : (d : List ℕ) (k s : ℕ) → k < C .size → s < C .parts → reading C (first d) k s ≡ cond (ltb (k * C .parts + s) (C .parts)) (at d (k * C .parts + s)) 0
+  first-reading : (d : List ℕ) (k s : ℕ) → k < C .size → s < C .parts
+      → reading C (first d) k s ≡ cond (ltb (k * C .parts + s) (C .parts)) (at d (k * C .parts + s)) 0
   unfolding reading first
   first-reading d k s h b = at-tab (symbols C) (λ c. cond (ltb c (C .parts)) (at d c) 0) (k * C .parts + s) (digits-lt h b)
 

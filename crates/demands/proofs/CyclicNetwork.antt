@@ -116,14 +116,16 @@ module _ (R : Ring) (K A : List ℕ) (reported : ℕ) where
     (λ x. ap (λ (c : Code). c .number)
         (undecodable-refused R K A reported Y out e
         (λ t. x .2 (in-span (x .0) .0
-        (all-at (R .parts) (λ s. inSpan (R .q) (columns (networkOf R K A)) (keptRows (networkOf R K A) reported) (totalRow (networkOf R K A) s)) t (x .0) (x .1)))))),
+        (all-at (R .parts) (λ s. inSpan (R .q) (columns (networkOf R K A)) (keptRows (networkOf R K A) reported) (totalRow (networkOf R K A) s)) t (x .0)
+        (x .1)))))),
   )
     where
       go : _≡_ {A = ℕ} (firstOf (decodeChecks R K A reported Y out) .number) 23 → Dec (T (decodable (networkOf R K A) reported))
           → (s : ℕ) × (s < R .parts) × (¬ (Combination (networkOf R K A) reported s))
       go n (yes t) = absurd (omega (arith, n, ap (λ (c : Code). c .number) (decodable-accepted R K A reported Y out e t)))
       go n (no f) =
-          let (s, b, none) = not-all (R .parts) (λ s. inSpan (R .q) (columns (networkOf R K A)) (keptRows (networkOf R K A) reported) (totalRow (networkOf R K A) s)) f in
+          let (s, b, none) = not-all (R .parts) (λ s. inSpan (R .q) (columns (networkOf R K A)) (keptRows (networkOf R K A) reported)
+          (totalRow (networkOf R K A) s)) f in
           (s, b, λ c. none (in-span s .1 c))
 
   pub nobody-could : NobodyCould R K A reported

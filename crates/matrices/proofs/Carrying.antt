@@ -45,7 +45,9 @@ module _ (q rows cols i : ℕ) (T vs : List ℕ) where
   -- values that are not as many as the rows
   pub not-as-many : eqb (length vs) rows ≡ false → vs ≡ carried q rows cols i T vs
   unfolding carried
-  not-as-many e = sym (ap (λ (b : Bool). cond b (carriedBy q cols i (pivotOf (rowOf cols T i)) T vs) vs) (and-false (hasPivot rows cols i T) (eqb (length vs) rows) e))
+  not-as-many e =
+      sym (ap (λ (b : Bool). cond b (carriedBy q cols i (pivotOf (rowOf cols T i)) T vs) vs)
+      (and-false (hasPivot rows cols i T) (eqb (length vs) rows) e))
     where
       and-false : (a b : Bool) → b ≡ false → (a && b) ≡ false
       and-false true b e = e

@@ -71,7 +71,8 @@ module _ (q : ℕ) (p : Prime q) (n : ℕ) (b : ℕ → Bool) (row : ℕ → Lis
   before-kept zero = tt
   before-kept (suc k) = go (before-kept k) (b k) (inSpan q n (before k) (row k)) refl refl
     where
-      go : All (InSpan q n (keeps k)) (before k) → (x y : Bool) → b k ≡ x → inSpan q n (before k) (row k) ≡ y → All (InSpan q n (keeps k ++ cond (fresh k) (row k ∷ []) [])) (before k ++ cond (b k) (row k ∷ []) [])
+      go : All (InSpan q n (keeps k)) (before k) → (x y : Bool) → b k ≡ x → inSpan q n (before k) (row k) ≡ y
+          → All (InSpan q n (keeps k ++ cond (fresh k) (row k ∷ []) [])) (before k ++ cond (b k) (row k ∷ []) [])
       go ih false y e f =
           rw e (all-append (InSpan q n (keeps k ++ [])) (before k) [] (grow-all (keeps k) k false (keeps-vectors k) (before k) ih) tt)
       go ih true true e f =
@@ -95,7 +96,8 @@ module _ (q : ℕ) (p : Prime q) (n : ℕ) (b : ℕ → Bool) (row : ℕ → Lis
   kept-before zero = tt
   kept-before (suc k) = go (kept-before k) (b k) (fresh k) refl refl
     where
-      go : All (InSpan q n (before k)) (keeps k) → (x y : Bool) → b k ≡ x → fresh k ≡ y → All (InSpan q n (before k ++ cond (b k) (row k ∷ []) [])) (keeps k ++ cond (fresh k) (row k ∷ []) [])
+      go : All (InSpan q n (before k)) (keeps k) → (x y : Bool) → b k ≡ x → fresh k ≡ y
+          → All (InSpan q n (before k ++ cond (b k) (row k ∷ []) [])) (keeps k ++ cond (fresh k) (row k ∷ []) [])
       go ih x false e f =
           rw f (all-append (InSpan q n (before k ++ cond (b k) (row k ∷ []) [])) (keeps k) [] (grow-all (before k) k (b k) (before-vectors k) (keeps k) ih) tt)
       go ih true true e f =

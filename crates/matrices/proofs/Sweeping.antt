@@ -122,7 +122,8 @@ module _ (q : ℕ) (pr : Prime q) (rows cols first : ℕ) (b : ℕ → Bool) (T�
       go : (c : Bool) → Table q rows cols (after k) → Reduced q rows cols 0 row (sweptBy k) (after k)
           → Reduced q rows cols 0 row (sweptBy k ++ cond c (row (first + k) ∷ []) []) (cond c (eliminated q rows cols (first + k) (after k)) (after k))
       go true t R =
-          eliminated-reduced q pr rows cols 0 (after k) t (omega arith) (first + k) (omega arith) 0 row (sweptBy k) (omega arith) R 0 (omega arith) (omega arith)
+          eliminated-reduced q pr rows cols 0 (after k) t (omega arith) (first + k) (omega arith) 0 row (sweptBy k) (omega arith) R 0 (omega arith)
+          (omega arith)
       go false t R = subst (λ (S : List (List ℕ)). Reduced q rows cols 0 row S (after k)) (sym (append-nil (sweptBy k))) R
 
   swept-vectors : (k : ℕ) → first + k ≤ rows → All (Vector q cols) (sweptBy k)

@@ -166,7 +166,8 @@ sums-many R K A Y out t =
     let (_, y) = T-and (tableFits R K && weightsFit R A) (eqb (length Y) (R .size)) t₁ in
     eqb→eq (length Y) (R .size) y
 
-pub arrivals-known : (R : Ring) (K A : List ℕ) (reported : ℕ) (Y out : List ℕ) → accepted ≡ firstOf (arrivalChecks R K A reported Y out) → DecodeReady R K A reported Y out
+pub arrivals-known : (R : Ring) (K A : List ℕ) (reported : ℕ) (Y out : List ℕ) → accepted ≡ firstOf (arrivalChecks R K A reported Y out)
+    → DecodeReady R K A reported Y out
 arrivals-known R K A reported Y out e =
     let last : List (Bool × Code) = (not (eqb (reported / 2 ^ R .size) 0), code 8) ∷ [] in
     let first : accepted ≡ firstOf (countChecks R ++ symbolChecks (R .q) (lentFits R K A Y out) (lentBelow R K A reported Y))

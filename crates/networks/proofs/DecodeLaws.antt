@@ -94,7 +94,8 @@ module _ (R : Ring) (K A : List ℕ) (ready : Ready R K A) (reported : ℕ) (Y :
         few-cols = few-columns R (ready .counted);
         size = sym (ap length start-is ∙ length-tab (rows * cols) _);
         valid = λ j l.
-            subst (Vector (R .q) cols) (sym (row-is j l)) (tab-vector (R .q) cols (entryOf (networkOf R K A) 0 j) (λ c b. number-below (networkOf R K A) ok 0 j c));
+            subst (Vector (R .q) cols) (sym (row-is j l)) (tab-vector (R .q) cols (entryOf (networkOf R K A) 0 j)
+            (λ c b. number-below (networkOf R K A) ok 0 j c));
       }
 
   abbrev after : ℕ → List ℕ
@@ -167,7 +168,8 @@ module _ (R : Ring) (K A : List ℕ) (ready : Ready R K A) (reported : ℕ) (Y :
     beside-relay j = ap (λ (n : ℕ). at beside (n + j)) (sym (length-zeros (R .parts))) ∙ getD-append-add (zeros (R .parts)) Y j 0
 
     arrived-below : (j : ℕ) → j < R .size → T (hasBit reported j) → at Y j < R .q
-    arrived-below j l t = go (T-or (not (hasBit reported j)) (ltb (at Y j) (R .q)) (all-at (R .size) (λ j. not (hasBit reported j) || ltb (at Y j) (R .q)) below j l))
+    arrived-below j l t =
+        go (T-or (not (hasBit reported j)) (ltb (at Y j) (R .q)) (all-at (R .size) (λ j. not (hasBit reported j) || ltb (at Y j) (R .q)) below j l))
       where
         open-or : T (not (hasBit reported j)) → at Y j < R .q
         open-or n = absurd (T-not (hasBit reported j) n t)
@@ -175,7 +177,8 @@ module _ (R : Ring) (K A : List ℕ) (ready : Ready R K A) (reported : ℕ) (Y :
         go : mathlib.Core.Logic._⊎_ (T (not (hasBit reported j))) (T (ltb (at Y j) (R .q))) → at Y j < R .q
         go = mathlib.Core.Logic.⊎-elim open-or (ltb→lt (at Y j) (R .q))
 
-    pub decoded-swept : T (decodable (networkOf R K A) reported) → (s : ℕ) → s < R .parts → oppositeOf (R .q) (at (values (R .size)) s) ≡ decoded (networkOf R K A) reported Y s
+    pub decoded-swept : T (decodable (networkOf R K A) reported) → (s : ℕ) → s < R .parts
+        → oppositeOf (R .q) (at (values (R .size)) s) ≡ decoded (networkOf R K A) reported Y s
     unfolding kept
     decoded-swept t s l =
         let (M, _, hits) = sums-solved (networkOf R K A) ok reported Y (λ j b k. arrived-below j b (kept-arrived (networkOf R K A) ok reported j k)) in
@@ -192,7 +195,8 @@ module _ (R : Ring) (K A : List ℕ) (ready : Ready R K A) (reported : ℕ) (Y :
         (λ i b k.
         let j : i < R .size = omega arith in
         let k′ : T (kept (networkOf R K A) reported i)
-        = subst T (ap₂ (λ (S : List (List ℕ)) (r : List ℕ). hasBit reported i && not (inSpan (R .q) cols S r)) (swept-rows i (omega arith)) (relay-here i j)) k in
+        = subst T (ap₂ (λ (S : List (List ℕ)) (r : List ℕ). hasBit reported i && not (inSpan (R .q) cols S r)) (swept-rows i (omega arith))
+        (relay-here i j)) k in
         ap (λ (r : List ℕ). dot (R .q) r M) (relay-here i j)
         ∙ hits i j k′
         ∙ sym (mod-eq-of-lt (arrived-below i j (kept-arrived (networkOf R K A) ok reported i k′)))

@@ -161,7 +161,8 @@ module _ (C : Network) where
         }
 
     pub grid-rows : (w first from rows : ℕ) → from < columns C
-        → rowsOf rows (columns C - from) (gridOf C w first from (rows * (columns C - from))) ≡ tab rows (λ i. tab (columns C - from) (λ c. entryOf C w (first + i) (from + c)))
+        → rowsOf rows (columns C - from) (gridOf C w first from (rows * (columns C - from))) ≡ tab rows
+        (λ i. tab (columns C - from) (λ c. entryOf C w (first + i) (from + c)))
     unfolding gridOf
     grid-rows w first from rows b = rows-grid rows (columns C - from) (λ i c. entryOf C w (first + i) (from + c)) (omega arith)
 

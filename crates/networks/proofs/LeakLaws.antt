@@ -36,13 +36,15 @@ length-rows (suc rows) cols T = ap suc (length-rows rows cols (drop cols T))
 
 module _ (R : Ring) (K A : List ℕ) (ready : Ready R K A) where
   -- elimination counts the rank of the grid
-  pub grid-rank : (w first from : ℕ) → from < columns (networkOf R K A) → (rows width : ℕ) → rows ≡ rowsSeen R w - first → width ≡ R .size * R .parts + R .rate - from
+  pub grid-rank : (w first from : ℕ) → from < columns (networkOf R K A) → (rows width : ℕ) → rows ≡ rowsSeen R w - first
+      → width ≡ R .size * R .parts + R .rate - from
       → pivotsFrom (R .q) rows width rows 0 (gridOf (networkOf R K A) w first from (rows * width)) ≡ gridRank R K A w first from
   unfolding gridRank
   grid-rank w first from b rows width e f =
       ap₂ (λ (r c : ℕ). pivotsFrom (R .q) r c r 0 (gridOf (networkOf R K A) w first from (r * c))) e f
       ∙ pivots-are-rank (R .q) (ready .prime) (rowsSeen R w - first) (R .size * R .parts + R .rate - from) _
-      (grid-table (networkOf R K A) (sound R K A ready) w first from (rowsSeen R w - first) (omega (arith, few-rows R (ready .counted) w)) (few-columns R (ready .counted)) b)
+      (grid-table (networkOf R K A) (sound R K A ready) w first from (rowsSeen R w - first) (omega (arith, few-rows R (ready .counted) w))
+      (few-columns R (ready .counted)) b)
 
   -- it is at most the number of rows
   pub rank-few : (w first from : ℕ) → gridRank R K A w first from ≤ 12
@@ -65,7 +67,8 @@ module _ (R : Ring) (K A : List ℕ) (ready : Ready R K A) where
   some-columns : symbols (networkOf R K A) < columns (networkOf R K A)
   some-columns = omega (arith, ready .counted .rate-low)
 
-  relay-whole : (j : ℕ) → gridRank R K A (suc j) 0 0 ≡ rankOf (R .q) (columns (networkOf R K A)) (tab (R .links) (λ l. uploadRow (networkOf R K A) (heard (networkOf R K A) j l) l))
+  relay-whole : (j : ℕ) → gridRank R K A (suc j) 0 0 ≡ rankOf (R .q) (columns (networkOf R K A)) (tab (R .links) (λ l. uploadRow (networkOf R K A) (heard
+      (networkOf R K A) j l) l))
   relay-whole j =
       let N : Network = networkOf R K A in
       ranked (suc j) 0 0 (omega (arith, some-columns)) (R .links) (columns N) (omega arith) (omega arith)
@@ -73,10 +76,12 @@ module _ (R : Ring) (K A : List ℕ) (ready : Ready R K A) where
       (tab-cong (R .links) (λ i. tab (columns N) (λ c. uploadEntry N (heard N j (0 + i)) (0 + i) (0 + c))) (λ l. uploadRow N (heard N j l) l)
       (λ i l.
       ap (λ (z : ℕ). tab (columns N) (λ c. uploadEntry N (heard N j z) z (0 + c))) (zero-add i)
-      ∙ tab-cong (columns N) (λ c. uploadEntry N (heard N j i) i (0 + c)) (uploadEntry N (heard N j i) i) (λ c b. ap (uploadEntry N (heard N j i) i) (zero-add c))
+      ∙ tab-cong (columns N) (λ c. uploadEntry N (heard N j i) i (0 + c)) (uploadEntry N (heard N j i) i)
+      (λ c b. ap (uploadEntry N (heard N j i) i) (zero-add c))
       ∙ upload-row N (heard N j i) i))
 
-  relay-part : (j : ℕ) → gridRank R K A (suc j) 0 (R .size * R .parts) ≡ rankOf (R .q) (R .rate) (tab (R .links) (λ l. uploadSource (networkOf R K A) (heard (networkOf R K A) j l) l))
+  relay-part : (j : ℕ) → gridRank R K A (suc j) 0 (R .size * R .parts) ≡ rankOf (R .q) (R .rate) (tab (R .links) (λ l. uploadSource (networkOf R K A) (heard
+      (networkOf R K A) j l) l))
   relay-part j =
       let N : Network = networkOf R K A in
       ranked (suc j) 0 (symbols N) some-columns (R .links) (R .rate) (omega arith) (omega arith)
@@ -142,7 +147,8 @@ module _ (R : Ring) (K A : List ℕ) (ready : Ready R K A) where
           found (yes t) = t
           found (no f) = absurd (n (iff .0 (λ k. f (leaks-iff (networkOf R K A) pos w .1 k))))
 
-  pub ranks-decide : (w : ℕ) → not (eqb (gridRank R K A w 0 0) (totalsSeen R w + gridRank R K A w (totalsSeen R w) (R .size * R .parts))) ≡ leaks (networkOf R K A) w
+  pub ranks-decide : (w : ℕ) → not (eqb (gridRank R K A w 0 0) (totalsSeen R w + gridRank R K A w (totalsSeen R w) (R .size * R .parts))) ≡ leaks (networkOf R K
+      A) w
   ranks-decide zero =
       ap₂ (λ (a b : ℕ). not (eqb a (R .parts + b))) server-whole server-part
       ∙ decided 0 _ _ (server-rank (networkOf R K A) (sound R K A ready))

@@ -19,7 +19,8 @@ module _ (R : Ring) (c : Counted R) where
 
   pub few-links : R .size * R .links ≤ 64
   few-links =
-      mul-le-mul {n₁ = R .size} {m₁ = R .links} {n₂ = 8} {m₂ = 8} (c .size-high) (let a : R .links ≤ R .size = c .links-high in let b : R .size ≤ 8 = c .size-high in omega arith)
+      mul-le-mul {n₁ = R .size} {m₁ = R .links} {n₂ = 8} {m₂ = 8} (c .size-high)
+      (let a : R .links ≤ R .size = c .links-high in let b : R .size ≤ 8 = c .size-high in omega arith)
 
   pub few-weights : R .size * R .links * (R .parts + 1) ≤ 320
   few-weights =
@@ -98,4 +99,5 @@ module _ (R : Ring) (c : Counted R) where
 
   pub few-cells : (w first from : ℕ) → (rowsSeen R w - first) * (R .size * R .parts + R .rate - from) ≤ 576
   few-cells w first from =
-      mul-le-mul {n₁ = rowsSeen R w - first} {m₁ = R .size * R .parts + R .rate - from} {n₂ = 12} {m₂ = 48} (omega (arith, few-rows w)) (omega (arith, few-columns))
+      mul-le-mul {n₁ = rowsSeen R w - first} {m₁ = R .size * R .parts + R .rate - from} {n₂ = 12} {m₂ = 48} (omega (arith, few-rows w))
+      (omega (arith, few-columns))

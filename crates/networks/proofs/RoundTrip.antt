@@ -57,7 +57,8 @@ module _ (R : Ring) (K A : List ℕ) (passed : accepted ≡ firstOf (networkChec
 
   module _ (W N : List ℕ) where
     -- what a user sends on a link, from its reading and its key
-    pub upload-meant : (k l : ℕ) → uploadOf R A k l (tab (R .parts) (reading (networkOf R K A) W k)) (key (networkOf R K A) N k) ≡ upload (networkOf R K A) W N k l
+    pub upload-meant : (k l : ℕ) → uploadOf R A k l (tab (R .parts) (reading (networkOf R K A) W k)) (key (networkOf R K A) N k) ≡ upload (networkOf R K A) W N
+        k l
     unfolding uploadOf upload weight
     upload-meant k l =
         ap (λ (z : ℕ). (z + weight (networkOf R K A) k l (R .parts) * key (networkOf R K A) N k) % R .q)
@@ -114,7 +115,10 @@ module _ (R : Ring) (K A : List ℕ) (passed : accepted ≡ firstOf (networkChec
         (λ l b.
         let c : l < R .links = subst (λ (z : ℕ). l < z) (length-tab (R .links) _) b in
         subst (λ (z : ℕ). z < R .q) (sym (at-tab (R .links) _ l c)) (mod-lt _ pos)) in
-        sym (none-accepts (sumChecks R U) (none .0, (none .1 .0, (unmet (eqb (length U) (R .links)) long, (none .1 .1 .1 .0, (unmet (allBelow (R .q) U) below, tt))))))
+        sym (none-accepts (sumChecks R U) (
+          none .0,
+          (none .1 .0, (unmet (eqb (length U) (R .links)) long, (none .1 .1 .1 .0, (unmet (allBelow (R .q) U) below, tt)))),
+        ))
 
 -- ---- decoding
 
@@ -199,7 +203,8 @@ module _ (R : Ring) (K A : List ℕ) (reported : ℕ) where
     totals-written e W N h =
         accepted-takes (firstOf (decodeChecks R K A reported Y out)) (tab (R .parts) (decoded (networkOf R K A) reported Y)) out e
         ∙ tab-cong (R .parts) (decoded (networkOf R K A) reported Y) (total (networkOf R K A) W)
-        (λ s b. decoded-true (networkOf R K A) (sound R K A (arrivals-known R K A reported Y out (arrivals-first e) .ready)) reported (accepted-decodable e) W N Y h s b)
+        (λ s b. decoded-true (networkOf R K A) (sound R K A (arrivals-known R K A reported Y out (arrivals-first e) .ready)) reported
+        (accepted-decodable e) W N Y h s b)
 
   -- honest sums of the arrived are taken
   pub arrivals-taken : accepted ≡ firstOf (networkChecks R K A) → reported < 2 ^ R .size → (W N Y out : List ℕ) → length Y ≡ R .size → length out ≡ R .parts
@@ -222,8 +227,19 @@ module _ (R : Ring) (K A : List ℕ) (reported : ℕ) where
       let below : T (lentBelow R K A reported Y)
       = and-T (allBelow (R .q) K && allBelow (R .q) A) (arrivedBelow (R .q) (R .size) reported Y)
       (and-T (allBelow (R .q) K) (allBelow (R .q) A) (r .table-below) (r .weights-below)) sums in
-      sym (none-accepts (arrivalChecks R K A reported Y out)
-      (n .0, (n .1 .0, (unmet (lentFits R K A Y out) long, (n .1 .1 .1 .0, (unmet (lentBelow R K A reported Y) below, (ap not (eq-eqb (reported / 2 ^ R .size) 0 (div-eq-of-lt few)), tt)))))))
+      sym (none-accepts (arrivalChecks R K A reported Y out) (
+        n .0,
+        (
+          n .1 .0,
+          (
+            unmet (lentFits R K A Y out) long,
+            (
+              n .1 .1 .1 .0,
+              (unmet (lentBelow R K A reported Y) below, (ap not (eq-eqb (reported / 2 ^ R .size) 0 (div-eq-of-lt few)), tt)),
+            ),
+          ),
+        ),
+      ))
     where
       one : (b : Bool) (x : ℕ) → (T b → x < R .q) → T (not b || ltb x (R .q))
       one true x e = lt→ltb x (R .q) (e tt)

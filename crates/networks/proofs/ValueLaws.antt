@@ -48,7 +48,8 @@ module _ (q rows cols first reported : ℕ) (T vs : List ℕ) where
   unfolding sweptTable sweptValues
   swept-start = record { table = refl; values = refl }
 
-  pub swept-on : (U ws U′ ws′ : List ℕ) (k : ℕ) → hasBit reported k ≡ true → U′ ≡ eliminated q rows cols (first + k) U → ws′ ≡ carried q rows cols (first + k) U ws
+  pub swept-on : (U ws U′ ws′ : List ℕ) (k : ℕ) → hasBit reported k ≡ true → U′ ≡ eliminated q rows cols (first + k) U
+      → ws′ ≡ carried q rows cols (first + k) U ws
       → Swept U ws k → Swept U′ ws′ (k + 1)
   unfolding sweptTable sweptValues
   swept-on U ws U′ ws′ k b e f s =
@@ -56,11 +57,13 @@ module _ (q rows cols first reported : ℕ) (T vs : List ℕ) where
       record {
         table =
             e ∙ ap (eliminated q rows cols (first + k)) (s .table)
-            ∙ sym (ap (λ (x : Bool). cond x (eliminated q rows cols (first + k) (sweptTable q rows cols first (hasBit reported) T k)) (sweptTable q rows cols first (hasBit reported) T k)) b)
+            ∙ sym (ap (λ (x : Bool). cond x (eliminated q rows cols (first + k) (sweptTable q rows cols first (hasBit reported) T k))
+            (sweptTable q rows cols first (hasBit reported) T k)) b)
             ∙ ap (sweptTable q rows cols first (hasBit reported) T) z;
         values =
             f ∙ ap₂ (λ (x y : List ℕ). carried q rows cols (first + k) x y) (s .table) (s .values)
-            ∙ sym (ap (λ (x : Bool). cond x (carried q rows cols (first + k) (sweptTable q rows cols first (hasBit reported) T k) (sweptValues q rows cols first (hasBit reported) T vs k))
+            ∙ sym (ap (λ (x : Bool). cond x (carried q rows cols (first + k) (sweptTable q rows cols first (hasBit reported) T k)
+            (sweptValues q rows cols first (hasBit reported) T vs k))
             (sweptValues q rows cols first (hasBit reported) T vs k)) b)
             ∙ ap (sweptValues q rows cols first (hasBit reported) T vs) z;
       }
@@ -72,11 +75,13 @@ module _ (q rows cols first reported : ℕ) (T vs : List ℕ) where
       record {
         table =
             e ∙ s .table
-            ∙ sym (ap (λ (x : Bool). cond x (eliminated q rows cols (first + k) (sweptTable q rows cols first (hasBit reported) T k)) (sweptTable q rows cols first (hasBit reported) T k)) b)
+            ∙ sym (ap (λ (x : Bool). cond x (eliminated q rows cols (first + k) (sweptTable q rows cols first (hasBit reported) T k))
+            (sweptTable q rows cols first (hasBit reported) T k)) b)
             ∙ ap (sweptTable q rows cols first (hasBit reported) T) z;
         values =
             f ∙ s .values
-            ∙ sym (ap (λ (x : Bool). cond x (carried q rows cols (first + k) (sweptTable q rows cols first (hasBit reported) T k) (sweptValues q rows cols first (hasBit reported) T vs k))
+            ∙ sym (ap (λ (x : Bool). cond x (carried q rows cols (first + k) (sweptTable q rows cols first (hasBit reported) T k)
+            (sweptValues q rows cols first (hasBit reported) T vs k))
             (sweptValues q rows cols first (hasBit reported) T vs k)) b)
             ∙ ap (sweptValues q rows cols first (hasBit reported) T vs) z;
       }

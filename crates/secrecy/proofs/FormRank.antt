@@ -133,7 +133,8 @@ module _ (q : ℕ) (p : Prime q) (m n : ℕ) where
       → All (λ f. Cong q (dotN (f .onReadings) (zeros m) + dotN (f .onSource) y) 0) F
   source-none y [] h = tt
   source-none y (f ∷ F) h = (
-    c-trans (of-eq (ap (λ (z : ℕ). z + dotN (f .onSource) y) (dot-zeroed (f .onReadings) m) ∙ zero-add (dotN (f .onSource) y))) (cong-zero q (dotN (f .onSource) y) (h .0)),
+    c-trans (of-eq (ap (λ (z : ℕ). z + dotN (f .onSource) y) (dot-zeroed (f .onReadings) m) ∙ zero-add (dotN (f .onSource) y)))
+        (cong-zero q (dotN (f .onSource) y) (h .0)),
     source-none y F (h .1),
   )
 
@@ -168,7 +169,8 @@ module _ (q : ℕ) (p : Prime q) (m n : ℕ) where
           (c-sym (span-dot q (m + n) (padded n A) (e ++ zeros n) (s .M ++ zeros n) w
           (padded-none (s .M) (zeros n) (s .valid .size) A hA (s .orthogonal))))
           (c-trans
-          (of-eq (dot-append e (zeros n) (s .M) (zeros n) (he .size ∙ sym (s .valid .size)) ∙ ap (λ (z : ℕ). dotN e (s .M) + z) (dot-zeros n (zeros n)) ∙ omega arith))
+          (of-eq (dot-append e (zeros n) (s .M) (zeros n) (he .size ∙ sym (s .valid .size)) ∙ ap (λ (z : ℕ). dotN e (s .M) + z) (dot-zeros n (zeros n))
+          ∙ omega arith))
           (cong-one q (p .two) (dotN e (s .M)) (s .one))))
 
   padded-rank : (A C : List (List ℕ)) → All (Vector q m) A → All (Vector q m) C → rankOver q (m + n) (padded n A) (padded n C) ≡ rankOver q m A C

@@ -102,7 +102,8 @@ module _ (P : Pool) (prime : Prime (P .q)) (valid : Vector (P .q) (users P * P .
     pub observer-keeps : Independent (P .q) (P .rate) (coalitionRows P g) (picked k tested (λ i. F i .onSource ∷ []))
         → ¬ (Leak (P .q) (P .rate) readings agrees see)
     observer-keeps i =
-        hidden-keeps (P .q) (users P) (P .rate) (prime-pos prime) (Symbols (P .q) (users P)) E (seenForms P g k seen F) agrees see by (observer-hides i) readings
+        hidden-keeps (P .q) (users P) (P .rate) (prime-pos prime) (Symbols (P .q) (users P)) E (seenForms P g k seen F) agrees see by
+        (observer-hides i) readings
         symbols
 
     -- and where they are not, a leak is found among readings that have a difference to tell of each
@@ -113,7 +114,8 @@ module _ (P : Pool) (prime : Prime (P .q)) (valid : Vector (P .q) (users P * P .
         (λ w.
         let x : Telling P readings E tested F (w .i) = tells (w .i) (w .inside) (w .taken) in
         inr
-        (unmasked-leaks (P .q) (users P) (P .rate) (prime-pos prime) (Symbols (P .q) (users P)) E (seenForms P g k seen F) agrees see by readings symbols (x .d) none
+        (unmasked-leaks (P .q) (users P) (P .rate) (prime-pos prime) (Symbols (P .q) (users P)) E (seenForms P g k seen F) agrees see by readings symbols
+        (x .d) none
         (x .chosen)
         (x .unseen)
         (unmasked readings (w .i) (w .inside) (w .taken) (w .depends) x)))

@@ -24,7 +24,11 @@ returns-2 c =
 
 mul-if3 : tie.Need-mul-if3
 mul-if3 c =
-    omega (arith, few-numbers (c .before .before .before .before .args .rows) (c .before .before .before .before .args .cols) (c .before .if1 .left) (c .if2 .left))
+    omega (
+      arith,
+      few-numbers (c .before .before .before .before .args .rows) (c .before .before .before .before .args .cols) (c .before .if1 .left)
+          (c .if2 .left),
+    )
 
 returns-3 : tie.Need-returns-3
 returns-3 c =
@@ -69,7 +73,8 @@ is-pivot c =
 
 -- the part that was lent is row i
 found : (c : tie.Else5) {p : ℕ} → (let a = c .before .before .before .before .before .before .before .args in
-    p ≡ pivotOf (take (a .i * a .cols + a .cols - a .i * a .cols) (drop (a .i * a .cols) (a .table .now))) → p ≡ pivotOf (rowOf (a .cols) (a .table .now) (a .i)))
+    p ≡ pivotOf (take (a .i * a .cols + a .cols - a .i * a .cols) (drop (a .i * a .cols) (a .table .now))) → p ≡ pivotOf
+    (rowOf (a .cols) (a .table .now) (a .i)))
 found c e =
     let a = c .before .before .before .before .before .before .before .args in
     let k : a .i * a .cols + a .cols - a .i * a .cols ≡ a .cols = add-sub-cancel-left _ _ in

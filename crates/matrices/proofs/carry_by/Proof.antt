@@ -26,7 +26,9 @@ few s = cells-few (length (s .args .values .now)) (s .args .cols) _ (s .pre .0) 
 own : (s : tie.Start Inv-loop μ-loop) → s .args .i * s .args .cols + s .args .p < length (s .args .table .now)
 own s = cell-place (length (s .args .values .now)) (s .args .cols) (s .args .i) (s .args .p) _ (s .pre .3) (s .pre .4) (s .pre .2)
 
-there : (c : tie.In-loop Inv-loop μ-loop) → c .before .loop .r * c .before .before .before .before .before .before .before .before .args .cols + c .before .before .before .before .before .before .before .before .args .p < length (c .before .before .before .before .before .before .before .before .args .table .now)
+there : (c : tie.In-loop Inv-loop μ-loop)
+    → c .before .loop .r * c .before .before .before .before .before .before .before .before .args .cols + c .before .before .before .before .before .before
+    .before .before .args .p < length (c .before .before .before .before .before .before .before .before .args .table .now)
 there c =
     let s = c .before .before .before .before .before .before .before .before in
     cell-place (length (s .args .values .now)) (s .args .cols) (c .before .loop .r) (s .args .p) _
@@ -75,7 +77,13 @@ opposite-mod-requires : tie.Need-opposite-mod-requires Inv-loop μ-loop
 opposite-mod-requires c κs = tt
 
 mul-mul-add-mod : tie.Need-mul-mul-add-mod Inv-loop μ-loop
-mul-mul-add-mod c = omega (arith, c .before .before .loop-test .taken, c .before .before .before .loop .inv .front .whole, c .before .before .before .before .before .before .before .before .before .before .pre .0)
+mul-mul-add-mod c = omega (
+  arith,
+  c .before .before .loop-test .taken,
+  c .before .before .before .loop .inv .front .whole,
+  c .before .before .before .before
+      .before .before .before .before .before .before .pre .0,
+)
 
 slice-read-mul-add-mod : tie.Need-slice-read-mul-add-mod Inv-loop μ-loop
 slice-read-mul-add-mod c = c .before .before .before .loop-test .taken
@@ -84,16 +92,29 @@ mul-add-mod-requires : tie.Need-mul-add-mod-requires Inv-loop μ-loop
 mul-add-mod-requires c κs = tt
 
 mul-values : tie.Need-mul-values Inv-loop μ-loop
-mul-values c = omega (arith, c .before .before .before .before .loop-test .taken, c .before .before .before .before .before .loop .inv .front .whole, c .before .before .before .before .before .before .before .before .before .before .before .before .pre .0)
+mul-values c = omega (
+  arith,
+  c .before .before .before .before .loop-test .taken,
+  c .before .before .before .before .before .loop .inv .front .whole,
+  c .before
+      .before .before .before .before .before .before .before .before .before .before .before .pre .0,
+)
 
 slice-write-values : tie.Need-slice-write-values Inv-loop μ-loop
 slice-write-values c = c .before .before .before .before .loop-test .taken
 
 add-r : tie.Need-add-r Inv-loop μ-loop
-add-r c = omega (arith, c .before .before .before .before .loop-test .taken, c .before .before .before .before .before .loop .inv .front .whole, c .before .before .before .before .before .before .before .before .before .before .before .before .pre .0)
+add-r c = omega (
+  arith,
+  c .before .before .before .before .loop-test .taken,
+  c .before .before .before .before .before .loop .inv .front .whole,
+  c .before
+      .before .before .before .before .before .before .before .before .before .before .before .pre .0,
+)
 
 loop-less : tie.Need-loop-less Inv-loop μ-loop
-loop-less c = filling-less (c .before .before .before .before .before .loop .values) (c .before .before .before .before .before .loop .r) (c .mul-add-mod .result) (c .before .before .before .before .loop-test .taken)
+loop-less c = filling-less (c .before .before .before .before .before .loop .values) (c .before .before .before .before .before .loop .r)
+    (c .mul-add-mod .result) (c .before .before .before .before .loop-test .taken)
 
 loop-again : tie.Need-loop-again Inv-loop μ-loop
 unfolding step
@@ -102,9 +123,11 @@ loop-again c =
     let l = c .before .before .before .before .before .loop in
     carrying-next _ _ (l .values) (l .r) (c .mul-add-mod .result) (l .inv) (c .before .before .before .before .loop-test .taken)
     (c .mul-add-mod .ensures
-    ∙ ap (λ (x : ℕ). mulAddOf (a .q) x (c .before .before .opposite-mod .result) (c .before .before .before .before .before .before .mul-mod .result)) (l .inv .rest (l .r) (omega arith))
+    ∙ ap (λ (x : ℕ). mulAddOf (a .q) x (c .before .before .opposite-mod .result) (c .before .before .before .before .before .before .mul-mod .result))
+    (l .inv .rest (l .r) (omega arith))
     ∙ ap₂ (λ (x y : ℕ). mulAddOf (a .q) (at (a .values .now) (l .r)) x y) (c .before .before .opposite-mod .ensures)
-    (c .before .before .before .before .before .before .mul-mod .ensures ∙ ap (λ (z : ℕ). productOf (a .q) z (at (a .values .now) (a .i))) (c .before .before .before .before .before .before .before .before .inverse-mod .ensures)))
+    (c .before .before .before .before .before .before .mul-mod .ensures ∙ ap (λ (z : ℕ). productOf (a .q) z (at (a .values .now) (a .i)))
+    (c .before .before .before .before .before .before .before .before .inverse-mod .ensures)))
 
 same-length : tie.Need-same-length Inv-loop μ-loop
 same-length c = c .before .loop .inv .front .whole

@@ -13,7 +13,10 @@ decode-lengths-requires : tie.Need-decode-lengths-requires
 decode-lengths-requires c κs = search needs
 
 returns : tie.Need-returns
-returns c = sym (ap (λ (b : Bool). firstOf (symbolChecks (c .before .before .before .before .before .before .args .ring .q) b (lentBelow (c .before .before .before .before .before .before .args .ring) (c .before .before .before .before .before .before .args .table .now) (c .before .before .before .before .before .before .args .weights .now) (c .before .before .before .before .before .before .args .reported) (c .before .before .before .before .before .before .args .sums .now)))) (sym (c .before .decode-lengths .ensures) ∙ not-true _ (c .if1 .taken)))
+returns c =
+    let a = c .before .before .before .before .before .before .args in
+    sym (ap (λ (b : Bool). firstOf (symbolChecks (a .ring .q) b (lentBelow (a .ring) (a .table .now) (a .weights .now) (a .reported) (a .sums .now))))
+    (sym (c .before .decode-lengths .ensures) ∙ not-true _ (c .if1 .taken)))
 
 decode-below-requires : tie.Need-decode-below-requires
 decode-below-requires c κs =
@@ -29,7 +32,8 @@ check-symbols-requires c κs = search needs
 returns-2 : tie.Need-returns-2
 returns-2 c =
     c .check-symbols .ensures
-    ∙ ap₂ (λ (b d : Bool). firstOf (symbolChecks (c .before .before .before .before .before .before .before .before .args .ring .q) b d)) (sym (sym (c .before .before .before .decode-lengths .ensures) ∙ not-false _ (c .before .before .if1 .left))) (c .before .decode-below .ensures)
+    ∙ ap₂ (λ (b d : Bool). firstOf (symbolChecks (c .before .before .before .before .before .before .before .before .args .ring .q) b d))
+    (sym (sym (c .before .before .before .decode-lengths .ensures) ∙ not-false _ (c .before .before .if1 .left))) (c .before .decode-below .ensures)
 
 pub check-lent-spec : {M : Type 1} → statement M
 check-lent-spec =

@@ -25,16 +25,26 @@ same-length c = search needs
 
 returns : tie.Need-returns
 returns c =
-    let e : verdictCode (c .before .before .check-arrivals .result) ≡ firstOf ((arrivalChecks (c .before .before .before .before .before .before .before .before .args .ring) (c .before .before .before .before .before .before .before .before .args .table .now) (c .before .before .before .before .before .before .before .before .args .weights .now) (c .before .before .before .before .before .before .before .before .args .reported) (c .before .before .before .before .before .before .before .before .args .sums .now) (c .before .before .before .before .before .before .before .before .args .out .now)) ++ ((not (decodable (networkOf (c .before .before .before .before .before .before .before .before .args .ring) (c .before .before .before .before .before .before .before .before .args .table .now) (c .before .before .before .before .before .before .before .before .args .weights .now)) (c .before .before .before .before .before .before .before .before .args .reported)), code 23) ∷ []))
-    = first-answers (arrivalChecks (c .before .before .before .before .before .before .before .before .args .ring) (c .before .before .before .before .before .before .before .before .args .table .now) (c .before .before .before .before .before .before .before .before .args .weights .now) (c .before .before .before .before .before .before .before .before .args .reported) (c .before .before .before .before .before .before .before .before .args .sums .now) (c .before .before .before .before .before .before .before .before .args .out .now)) ((not (decodable (networkOf (c .before .before .before .before .before .before .before .before .args .ring) (c .before .before .before .before .before .before .before .before .args .table .now) (c .before .before .before .before .before .before .before .before .args .weights .now)) (c .before .before .before .before .before .before .before .before .args .reported)), code 23) ∷ []) (c .before .before .check-arrivals .result) (c .before .before .check-arrivals .ensures) (c .before .is-accepted .ensures) (c .if1 .taken) in
-    (e, keeps (c .before .before .check-arrivals .result) e (c .before .is-accepted .ensures) (tab (c .before .before .before .before .before .before .before .before .args .ring .parts) (decoded (networkOf (c .before .before .before .before .before .before .before .before .args .ring) (c .before .before .before .before .before .before .before .before .args .table .now) (c .before .before .before .before .before .before .before .before .args .weights .now)) (c .before .before .before .before .before .before .before .before .args .reported) (c .before .before .before .before .before .before .before .before .args .sums .now))) (c .before .before .before .before .before .before .before .before .args .out .now) (not-true _ (c .if1 .taken)))
+    let a = c .before .before .before .before .before .before .before .before .args in
+    let e : verdictCode (c .before .before .check-arrivals .result) ≡ firstOf
+    ((arrivalChecks (a .ring) (a .table .now) (a .weights .now) (a .reported) (a .sums .now) (a .out .now)) ++
+    ((not (decodable (networkOf (a .ring) (a .table .now) (a .weights .now)) (a .reported)), code 23) ∷ []))
+    = first-answers (arrivalChecks (a .ring) (a .table .now) (a .weights .now) (a .reported) (a .sums .now) (a .out .now))
+    ((not (decodable (networkOf (a .ring) (a .table .now) (a .weights .now)) (a .reported)), code 23) ∷ []) (c .before .before .check-arrivals .result)
+    (c .before .before .check-arrivals .ensures) (c .before .is-accepted .ensures) (c .if1 .taken) in (
+      e,
+      keeps (c .before .before .check-arrivals .result) e (c .before .is-accepted .ensures)
+          (tab (a .ring .parts) (decoded (networkOf (a .ring) (a .table .now) (a .weights .now)) (a .reported) (a .sums .now))) (a .out .now)
+          (not-true _ (c .if1 .taken)),
+    )
 
 decode-here-requires : tie.Need-decode-here-requires
 decode-here-requires c κs =
     let a = c .before .before .before .before .before .before .before .before .before .args in
     let r : DecodeReady (a .ring) (a .table .now) (a .weights .now) (a .reported) (a .sums .now) (a .out .now)
     = arrivals-known (a .ring) (a .table .now) (a .weights .now) (a .reported) (a .sums .now) (a .out .now)
-    (passes (c .before .before .before .check-arrivals .result) (c .before .before .before .check-arrivals .ensures) (c .before .before .is-accepted .ensures) (not-false _ (c .before .if1 .left))) in
+    (passes (c .before .before .before .check-arrivals .result) (c .before .before .before .check-arrivals .ensures) (c .before .before .is-accepted .ensures)
+    (not-false _ (c .before .if1 .left))) in
     (r .ready, r .many, r .below, r .room)
 
 same-length-2 : tie.Need-same-length-2
@@ -42,13 +52,22 @@ same-length-2 c = search needs
 
 returns-2 : tie.Need-returns-2
 returns-2 c =
-    let e : accepted ≡ firstOf ((arrivalChecks (c .before .before .before .before .before .before .before .before .before .before .before .before .before .args .ring) (c .before .before .before .before .before .before .before .before .before .before .before .before .before .args .table .now) (c .before .before .before .before .before .before .before .before .before .before .before .before .before .args .weights .now) (c .before .before .before .before .before .before .before .before .before .before .before .before .before .args .reported) (c .before .before .before .before .before .before .before .before .before .before .before .before .before .args .sums .now) (c .before .before .before .before .before .before .before .before .before .before .before .before .before .args .out .now)) ++ ((not (decodable (networkOf (c .before .before .before .before .before .before .before .before .before .before .before .before .before .args .ring) (c .before .before .before .before .before .before .before .before .before .before .before .before .before .args .table .now) (c .before .before .before .before .before .before .before .before .before .before .before .before .before .args .weights .now)) (c .before .before .before .before .before .before .before .before .before .before .before .before .before .args .reported)), code 23) ∷ []))
+    let a = c .before .before .before .before .before .before .before .before .before .before .before .before .before .args in
+    let e : accepted ≡ firstOf ((arrivalChecks (a .ring) (a .table .now) (a .weights .now) (a .reported) (a .sums .now) (a .out .now)) ++
+    ((not (decodable (networkOf (a .ring) (a .table .now) (a .weights .now)) (a .reported)), code 23) ∷ []))
     = sym (ap (λ (b : Bool). firstOf ((not b, code 23) ∷ [])) (sym (c .before .before .before .decode-here .ensures .0) ∙ c .if2 .taken))
-    ∙ second-answers (arrivalChecks (c .before .before .before .before .before .before .before .before .before .before .before .before .before .args .ring) (c .before .before .before .before .before .before .before .before .before .before .before .before .before .args .table .now) (c .before .before .before .before .before .before .before .before .before .before .before .before .before .args .weights .now) (c .before .before .before .before .before .before .before .before .before .before .before .before .before .args .reported) (c .before .before .before .before .before .before .before .before .before .before .before .before .before .args .sums .now) (c .before .before .before .before .before .before .before .before .before .before .before .before .before .args .out .now)) ((not (decodable (networkOf (c .before .before .before .before .before .before .before .before .before .before .before .before .before .args .ring) (c .before .before .before .before .before .before .before .before .before .before .before .before .before .args .table .now) (c .before .before .before .before .before .before .before .before .before .before .before .before .before .args .weights .now)) (c .before .before .before .before .before .before .before .before .before .before .before .before .before .args .reported)), code 23) ∷ []) (c .before .before .before .before .before .before .before .check-arrivals .result) (c .before .before .before .before .before .before .before .check-arrivals .ensures) (c .before .before .before .before .before .before .is-accepted .ensures) tt (c .before .before .before .before .before .if1 .left) in (
+    ∙ second-answers (arrivalChecks (a .ring) (a .table .now) (a .weights .now) (a .reported) (a .sums .now) (a .out .now))
+    ((not (decodable (networkOf (a .ring) (a .table .now) (a .weights .now)) (a .reported)), code 23) ∷ [])
+    (c .before .before .before .before .before .before .before .check-arrivals .result)
+    (c .before .before .before .before .before .before .before .check-arrivals .ensures)
+    (c .before .before .before .before .before .before .is-accepted .ensures) tt (c .before .before .before .before .before .if1 .left) in (
       e,
       c .before .before .before .decode-here .ensures .1
-          ∙ ap (λ (b : Bool). cond b (tab (c .before .before .before .before .before .before .before .before .before .before .before .before .before .args .ring .parts) (decoded (networkOf (c .before .before .before .before .before .before .before .before .before .before .before .before .before .args .ring) (c .before .before .before .before .before .before .before .before .before .before .before .before .before .args .table .now) (c .before .before .before .before .before .before .before .before .before .before .before .before .before .args .weights .now)) (c .before .before .before .before .before .before .before .before .before .before .before .before .before .args .reported) (c .before .before .before .before .before .before .before .before .before .before .before .before .before .args .sums .now))) (c .before .before .before .before .before .before .before .before .before .before .before .before .before .args .out .now)) (sym (c .before .before .before .decode-here .ensures .0) ∙ c .if2 .taken)
-          ∙ sym (accepted-takes (firstOf ((arrivalChecks (c .before .before .before .before .before .before .before .before .before .before .before .before .before .args .ring) (c .before .before .before .before .before .before .before .before .before .before .before .before .before .args .table .now) (c .before .before .before .before .before .before .before .before .before .before .before .before .before .args .weights .now) (c .before .before .before .before .before .before .before .before .before .before .before .before .before .args .reported) (c .before .before .before .before .before .before .before .before .before .before .before .before .before .args .sums .now) (c .before .before .before .before .before .before .before .before .before .before .before .before .before .args .out .now)) ++ ((not (decodable (networkOf (c .before .before .before .before .before .before .before .before .before .before .before .before .before .args .ring) (c .before .before .before .before .before .before .before .before .before .before .before .before .before .args .table .now) (c .before .before .before .before .before .before .before .before .before .before .before .before .before .args .weights .now)) (c .before .before .before .before .before .before .before .before .before .before .before .before .before .args .reported)), code 23) ∷ []))) (tab (c .before .before .before .before .before .before .before .before .before .before .before .before .before .args .ring .parts) (decoded (networkOf (c .before .before .before .before .before .before .before .before .before .before .before .before .before .args .ring) (c .before .before .before .before .before .before .before .before .before .before .before .before .before .args .table .now) (c .before .before .before .before .before .before .before .before .before .before .before .before .before .args .weights .now)) (c .before .before .before .before .before .before .before .before .before .before .before .before .before .args .reported) (c .before .before .before .before .before .before .before .before .before .before .before .before .before .args .sums .now))) (c .before .before .before .before .before .before .before .before .before .before .before .before .before .args .out .now) e),
+          ∙ ap (λ (b : Bool). cond b (tab (a .ring .parts) (decoded (networkOf (a .ring) (a .table .now) (a .weights .now)) (a .reported) (a .sums .now)))
+          (a .out .now)) (sym (c .before .before .before .decode-here .ensures .0) ∙ c .if2 .taken)
+          ∙ sym (accepted-takes (firstOf ((arrivalChecks (a .ring) (a .table .now) (a .weights .now) (a .reported) (a .sums .now) (a .out .now)) ++
+          ((not (decodable (networkOf (a .ring) (a .table .now) (a .weights .now)) (a .reported)), code 23) ∷ [])))
+          (tab (a .ring .parts) (decoded (networkOf (a .ring) (a .table .now) (a .weights .now)) (a .reported) (a .sums .now))) (a .out .now) e),
     )
 
 same-length-3 : tie.Need-same-length-3
@@ -56,13 +75,22 @@ same-length-3 c = search needs
 
 returns-3 : tie.Need-returns-3
 returns-3 c =
-    let e : code 23 ≡ firstOf ((arrivalChecks (c .before .before .before .before .before .before .before .before .before .before .before .before .before .args .ring) (c .before .before .before .before .before .before .before .before .before .before .before .before .before .args .table .now) (c .before .before .before .before .before .before .before .before .before .before .before .before .before .args .weights .now) (c .before .before .before .before .before .before .before .before .before .before .before .before .before .args .reported) (c .before .before .before .before .before .before .before .before .before .before .before .before .before .args .sums .now) (c .before .before .before .before .before .before .before .before .before .before .before .before .before .args .out .now)) ++ ((not (decodable (networkOf (c .before .before .before .before .before .before .before .before .before .before .before .before .before .args .ring) (c .before .before .before .before .before .before .before .before .before .before .before .before .before .args .table .now) (c .before .before .before .before .before .before .before .before .before .before .before .before .before .args .weights .now)) (c .before .before .before .before .before .before .before .before .before .before .before .before .before .args .reported)), code 23) ∷ []))
+    let a = c .before .before .before .before .before .before .before .before .before .before .before .before .before .args in
+    let e : code 23 ≡ firstOf ((arrivalChecks (a .ring) (a .table .now) (a .weights .now) (a .reported) (a .sums .now) (a .out .now)) ++
+    ((not (decodable (networkOf (a .ring) (a .table .now) (a .weights .now)) (a .reported)), code 23) ∷ []))
     = sym (ap (λ (b : Bool). firstOf ((not b, code 23) ∷ [])) (sym (c .before .before .before .decode-here .ensures .0) ∙ c .if2 .left))
-    ∙ second-answers (arrivalChecks (c .before .before .before .before .before .before .before .before .before .before .before .before .before .args .ring) (c .before .before .before .before .before .before .before .before .before .before .before .before .before .args .table .now) (c .before .before .before .before .before .before .before .before .before .before .before .before .before .args .weights .now) (c .before .before .before .before .before .before .before .before .before .before .before .before .before .args .reported) (c .before .before .before .before .before .before .before .before .before .before .before .before .before .args .sums .now) (c .before .before .before .before .before .before .before .before .before .before .before .before .before .args .out .now)) ((not (decodable (networkOf (c .before .before .before .before .before .before .before .before .before .before .before .before .before .args .ring) (c .before .before .before .before .before .before .before .before .before .before .before .before .before .args .table .now) (c .before .before .before .before .before .before .before .before .before .before .before .before .before .args .weights .now)) (c .before .before .before .before .before .before .before .before .before .before .before .before .before .args .reported)), code 23) ∷ []) (c .before .before .before .before .before .before .before .check-arrivals .result) (c .before .before .before .before .before .before .before .check-arrivals .ensures) (c .before .before .before .before .before .before .is-accepted .ensures) tt (c .before .before .before .before .before .if1 .left) in (
+    ∙ second-answers (arrivalChecks (a .ring) (a .table .now) (a .weights .now) (a .reported) (a .sums .now) (a .out .now))
+    ((not (decodable (networkOf (a .ring) (a .table .now) (a .weights .now)) (a .reported)), code 23) ∷ [])
+    (c .before .before .before .before .before .before .before .check-arrivals .result)
+    (c .before .before .before .before .before .before .before .check-arrivals .ensures)
+    (c .before .before .before .before .before .before .is-accepted .ensures) tt (c .before .before .before .before .before .if1 .left) in (
       e,
       c .before .before .before .decode-here .ensures .1
-          ∙ ap (λ (b : Bool). cond b (tab (c .before .before .before .before .before .before .before .before .before .before .before .before .before .args .ring .parts) (decoded (networkOf (c .before .before .before .before .before .before .before .before .before .before .before .before .before .args .ring) (c .before .before .before .before .before .before .before .before .before .before .before .before .before .args .table .now) (c .before .before .before .before .before .before .before .before .before .before .before .before .before .args .weights .now)) (c .before .before .before .before .before .before .before .before .before .before .before .before .before .args .reported) (c .before .before .before .before .before .before .before .before .before .before .before .before .before .args .sums .now))) (c .before .before .before .before .before .before .before .before .before .before .before .before .before .args .out .now)) (sym (c .before .before .before .decode-here .ensures .0) ∙ c .if2 .left)
-          ∙ sym (refused-keeps (firstOf ((arrivalChecks (c .before .before .before .before .before .before .before .before .before .before .before .before .before .args .ring) (c .before .before .before .before .before .before .before .before .before .before .before .before .before .args .table .now) (c .before .before .before .before .before .before .before .before .before .before .before .before .before .args .weights .now) (c .before .before .before .before .before .before .before .before .before .before .before .before .before .args .reported) (c .before .before .before .before .before .before .before .before .before .before .before .before .before .args .sums .now) (c .before .before .before .before .before .before .before .before .before .before .before .before .before .args .out .now)) ++ ((not (decodable (networkOf (c .before .before .before .before .before .before .before .before .before .before .before .before .before .args .ring) (c .before .before .before .before .before .before .before .before .before .before .before .before .before .args .table .now) (c .before .before .before .before .before .before .before .before .before .before .before .before .before .args .weights .now)) (c .before .before .before .before .before .before .before .before .before .before .before .before .before .args .reported)), code 23) ∷ []))) (tab (c .before .before .before .before .before .before .before .before .before .before .before .before .before .args .ring .parts) (decoded (networkOf (c .before .before .before .before .before .before .before .before .before .before .before .before .before .args .ring) (c .before .before .before .before .before .before .before .before .before .before .before .before .before .args .table .now) (c .before .before .before .before .before .before .before .before .before .before .before .before .before .args .weights .now)) (c .before .before .before .before .before .before .before .before .before .before .before .before .before .args .reported) (c .before .before .before .before .before .before .before .before .before .before .before .before .before .args .sums .now))) (c .before .before .before .before .before .before .before .before .before .before .before .before .before .args .out .now) NotDecodable e),
+          ∙ ap (λ (b : Bool). cond b (tab (a .ring .parts) (decoded (networkOf (a .ring) (a .table .now) (a .weights .now)) (a .reported) (a .sums .now)))
+          (a .out .now)) (sym (c .before .before .before .decode-here .ensures .0) ∙ c .if2 .left)
+          ∙ sym (refused-keeps (firstOf ((arrivalChecks (a .ring) (a .table .now) (a .weights .now) (a .reported) (a .sums .now) (a .out .now)) ++
+          ((not (decodable (networkOf (a .ring) (a .table .now) (a .weights .now)) (a .reported)), code 23) ∷ [])))
+          (tab (a .ring .parts) (decoded (networkOf (a .ring) (a .table .now) (a .weights .now)) (a .reported) (a .sums .now))) (a .out .now) NotDecodable e),
     )
 
 pub decode-spec : {M : Type 1} → statement M

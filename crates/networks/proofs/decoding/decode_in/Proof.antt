@@ -24,10 +24,18 @@ add-rows : tie.Need-add-rows
 add-rows c = search needs
 
 mul-cols : tie.Need-mul-cols
-mul-cols c = omega (arith, few-symbols (c .before .before .before .before .before .before .before .before .args .ring) (c .before .before .before .before .before .before .before .before .pre .0 .counted))
+mul-cols c = omega (
+  arith,
+  few-symbols (c .before .before .before .before .before .before .before .before .args .ring)
+      (c .before .before .before .before .before .before .before .before .pre .0 .counted),
+)
 
 add-cols : tie.Need-add-cols
-add-cols c = omega (arith, few-columns (c .before .before .before .before .before .before .before .before .before .args .ring) (c .before .before .before .before .before .before .before .before .before .pre .0 .counted))
+add-cols c = omega (
+  arith,
+  few-columns (c .before .before .before .before .before .before .before .before .before .args .ring)
+      (c .before .before .before .before .before .before .before .before .before .pre .0 .counted),
+)
 
 fill-grid-requires : tie.Need-fill-grid-requires
 fill-grid-requires c κs =
@@ -44,21 +52,33 @@ write-values-requires : tie.Need-write-values-requires
 write-values-requires c κs = search needs
 
 -- the table and the values are as long as they were
-table-long : (c : tie.After-sweep-all-arg2) → (c .before .before .before .before .before .before .before .before .before .before .before .before .before .before .before .before .before .before .before .args .ring .parts + c .before .before .before .before .before .before .before .before .before .before .before .before .before .before .before .before .before .before .before .args .ring .size) * (c .before .before .before .before .before .before .before .before .before .before .before .before .before .before .before .before .before .before .before .args .ring .size * c .before .before .before .before .before .before .before .before .before .before .before .before .before .before .before .before .before .before .before .args .ring .parts + c .before .before .before .before .before .before .before .before .before .before .before .before .before .before .before .before .before .before .before .args .ring .rate)
-    ≡ length (c .before .before .before .before .before .before .before .before .fill-grid .last .1 .1 .1 .1 .1 .1 .0)
+table-long : (c : tie.After-sweep-all-arg2) →
+    (let a = c .before .before .before .before .before .before .before .before .before .before .before .before .before .before .before .before .before .before
+    .before .args in (a .ring .parts + a .ring .size) * (a .ring .size * a .ring .parts + a .ring .rate) ≡ length
+    (c .before .before .before .before .before .before .before .before .fill-grid .last .1 .1 .1 .1 .1 .1 .0))
 table-long c =
-    let a = c .before .before .before .before .before .before .before .before .before .before .before .before .before .before .before .before .before .before .before .args in
-    sym (ap length (c .before .before .before .before .before .before .before .before .fill-grid .ensures) ∙ grid-size (networkOf (a .ring) (a .table .now) (a .weights .now)) 0 0 0 (length (a .t .now)) ∙ c .before .before .before .before .before .before .before .before .before .before .before .before .before .before .before .before .before .before .before .pre .3)
+    let a = c .before .before .before .before .before .before .before .before .before .before .before .before .before .before .before .before .before .before
+    .before .args in
+    sym (ap length (c .before .before .before .before .before .before .before .before .fill-grid .ensures) ∙ grid-size
+    (networkOf (a .ring) (a .table .now) (a .weights .now)) 0 0 0 (length (a .t .now))
+    ∙ c .before .before .before .before .before .before .before .before .before .before .before .before .before .before .before .before .before .before .before
+    .pre .3)
 
-values-long : (c : tie.After-sweep-all-arg2) → length (c .before .before .before .before .write-values .last .1 .1 .0) ≡ c .before .before .before .before .before .before .before .before .before .before .before .before .before .before .before .before .before .before .before .args .ring .parts + c .before .before .before .before .before .before .before .before .before .before .before .before .before .before .before .before .before .before .before .args .ring .size
+values-long : (c : tie.After-sweep-all-arg2) →
+    (let a = c .before .before .before .before .before .before .before .before .before .before .before .before .before .before .before .before .before .before
+    .before .args in length (c .before .before .before .before .write-values .last .1 .1 .0) ≡ a .ring .parts + a .ring .size)
 values-long c =
-    let a = c .before .before .before .before .before .before .before .before .before .before .before .before .before .before .before .before .before .before .before .args in
+    let a = c .before .before .before .before .before .before .before .before .before .before .before .before .before .before .before .before .before .before
+    .before .args in
     ap length (c .before .before .before .before .write-values .ensures)
-    ∙ length-append (zeros (a .ring .parts)) (a .sums .now) ∙ ap₂ _+_ (length-zeros (a .ring .parts)) (c .before .before .before .before .before .before .before .before .before .before .before .before .before .before .before .before .before .before .before .pre .1)
+    ∙ length-append (zeros (a .ring .parts)) (a .sums .now) ∙ ap₂ _+_ (length-zeros (a .ring .parts))
+    (c .before .before .before .before .before .before .before .before .before .before .before .before .before .before .before .before .before .before .before
+    .pre .1)
 
 sweep-all-requires : tie.Need-sweep-all-requires
 sweep-all-requires c κs =
-    let s = c .before .before .before .before .before .before .before .before .before .before .before .before .before .before .before .before .before .before .before in
+    let s = c .before .before .before .before .before .before .before .before .before .before .before .before .before .before .before .before .before .before
+    .before in
     let a = s .args in (
       omega (arith, s .pre .0 .counted .parts-high, s .pre .0 .counted .size-high),
       few-columns (a .ring) (s .pre .0 .counted),
@@ -70,9 +90,11 @@ sweep-all-requires c κs =
 
 all-cleared-requires : tie.Need-all-cleared-requires
 all-cleared-requires c κs =
-    let s = c .before .before .before .before .before .before .before .before .before .before .before .before .before .before .before .before .before .before .before .before .before .before .before .before .before in
+    let s = c .before .before .before .before .before .before .before .before .before .before .before .before .before .before .before .before .before .before
+    .before .before .before .before .before .before .before in
     let a = s .args in
-    let m : a .ring .parts * (a .ring .size * a .ring .parts + a .ring .rate) ≤ (a .ring .parts + a .ring .size) * (a .ring .size * a .ring .parts + a .ring .rate)
+    let m : a .ring .parts * (a .ring .size * a .ring .parts + a .ring .rate) ≤ (a .ring .parts + a .ring .size) *
+    (a .ring .size * a .ring .parts + a .ring .rate)
     = mul-le-mul {n₁ = a .ring .parts} {m₁ = a .ring .size * a .ring .parts + a .ring .rate} {n₂ = a .ring .parts + a .ring .size}
     {m₂ = a .ring .size * a .ring .parts + a .ring .rate} (omega arith) (omega arith) in (
       omega (arith, s .pre .0 .counted .parts-high),
@@ -83,7 +105,9 @@ all-cleared-requires c κs =
         table-long (c .before .before .before .before .before .before),
         ap length (c .before .before .before .before .before .sweep-all .ensures .0),
         swept-length (a .ring .q) (a .ring .parts + a .ring .size)
-            (a .ring .size * a .ring .parts + a .ring .rate) (a .ring .parts) (hasBit (a .reported)) (c .before .before .before .before .before .before .before .before .before .before .before .before .before .before .fill-grid .last .1 .1 .1 .1 .1 .1 .0) (table-long (c .before .before .before .before .before .before)) (a .ring .size),
+            (a .ring .size * a .ring .parts + a .ring .rate) (a .ring .parts) (hasBit (a .reported))
+            (c .before .before .before .before .before .before .before .before .before .before .before .before .before .before .fill-grid .last .1 .1 .1 .1 .1
+            .1 .0) (table-long (c .before .before .before .before .before .before)) (a .ring .size),
       ),
     )
 
@@ -93,24 +117,35 @@ same-length c = search needs
 same-length-2 : tie.Need-same-length-2
 same-length-2 c = search needs
 
-answered : (c : tie.After-all-cleared) → c .all-cleared .result ≡ decodable (networkOf (c .before .before .before .before .before .before .before .before .before .before .before .before .before .before .before .before .before .before .before .before .before .before .before .before .before .before .args .ring) (c .before .before .before .before .before .before .before .before .before .before .before .before .before .before .before .before .before .before .before .before .before .before .before .before .before .before .args .table .now) (c .before .before .before .before .before .before .before .before .before .before .before .before .before .before .before .before .before .before .before .before .before .before .before .before .before .before .args .weights .now)) (c .before .before .before .before .before .before .before .before .before .before .before .before .before .before .before .before .before .before .before .before .before .before .before .before .before .before .args .reported)
+answered : (c : tie.After-all-cleared) →
+    (let a = c .before .before .before .before .before .before .before .before .before .before .before .before .before .before .before .before .before .before
+    .before .before .before .before .before .before .before .before .args in c .all-cleared .result ≡ decodable
+    (networkOf (a .ring) (a .table .now) (a .weights .now)) (a .reported))
 answered c =
-    let s = c .before .before .before .before .before .before .before .before .before .before .before .before .before .before .before .before .before .before .before .before .before .before .before .before .before .before in
+    let s = c .before .before .before .before .before .before .before .before .before .before .before .before .before .before .before .before .before .before
+    .before .before .before .before .before .before .before .before in
     let a = s .args in
     c .all-cleared .ensures
-    ∙ answer-is (a .ring) (a .table .now) (a .weights .now) (s .pre .0) (a .reported) (a .sums .now) _ _ _ (c .before .before .before .before .before .before .before .before .before .before .before .before .before .before .before .fill-grid .ensures) (s .pre .3) (c .before .before .before .before .before .before .before .before .before .before .before .write-values .ensures)
+    ∙ answer-is (a .ring) (a .table .now) (a .weights .now) (s .pre .0) (a .reported) (a .sums .now) _ _ _
+    (c .before .before .before .before .before .before .before .before .before .before .before .before .before .before .before .fill-grid .ensures) (s .pre .3)
+    (c .before .before .before .before .before .before .before .before .before .before .before .write-values .ensures)
     _ (c .before .before .before .before .before .before .sweep-all .ensures .0)
 
 returns : tie.Need-returns
 returns c =
-    let a = c .before .before .before .before .before .before .before .before .before .before .before .before .before .before .before .before .before .before .before .before .before .before .before .before .before .before .before .args in
+    let a = c .before .before .before .before .before .before .before .before .before .before .before .before .before .before .before .before .before .before
+    .before .before .before .before .before .before .before .before .before .args in
     let e : false ≡ decodable (networkOf (a .ring) (a .table .now) (a .weights .now)) (a .reported)
-    = sym (not-true _ (c .if1 .taken)) ∙ answered (c .before) in
-    (e, ap (λ (b : Bool). cond b (tab (a .ring .parts) (decoded (networkOf (a .ring) (a .table .now) (a .weights .now)) (a .reported) (a .sums .now))) (a .out .now)) e)
+    = sym (not-true _ (c .if1 .taken)) ∙ answered (c .before) in (
+      e,
+      ap (λ (b : Bool). cond b (tab (a .ring .parts) (decoded (networkOf (a .ring) (a .table .now) (a .weights .now)) (a .reported) (a .sums .now)))
+          (a .out .now)) e,
+    )
 
 write-totals-requires : tie.Need-write-totals-requires
 write-totals-requires c κs =
-    let s = c .before .before .before .before .before .before .before .before .before .before .before .before .before .before .before .before .before .before .before .before .before .before .before .before .before .before .before .before .before in
+    let s = c .before .before .before .before .before .before .before .before .before .before .before .before .before .before .before .before .before .before
+    .before .before .before .before .before .before .before .before .before .before .before in
     let a = s .args in
     omega (
       arith,
@@ -118,7 +153,10 @@ write-totals-requires c κs =
       ap length (c .before .before .before .before .before .before .before .before .before .sweep-all .ensures .1),
       values-long (c .before .before .before .before .before .before .before .before .before .before),
       values-length (a .ring .q) (a .ring .parts + a .ring .size) (a .ring .size * a .ring .parts + a .ring .rate) (a .ring .parts) (hasBit (a .reported))
-          (c .before .before .before .before .before .before .before .before .before .before .before .before .before .before .before .before .before .before .fill-grid .last .1 .1 .1 .1 .1 .1 .0) (c .before .before .before .before .before .before .before .before .before .before .before .before .before .before .write-values .last .1 .1 .0) (a .ring .size),
+          (c .before .before .before .before .before .before .before .before .before .before .before .before .before .before .before .before .before .before
+          .fill-grid .last .1 .1 .1 .1 .1 .1 .0)
+          (c .before .before .before .before .before .before .before .before .before .before .before .before .before .before .write-values .last .1 .1 .0)
+          (a .ring .size),
     )
 
 same-length-3 : tie.Need-same-length-3
@@ -132,15 +170,22 @@ same-length-5 c = search needs
 
 returns-2 : tie.Need-returns-2
 returns-2 c =
-    let s = c .before .before .before .before .before .before .before .before .before .before .before .before .before .before .before .before .before .before .before .before .before .before .before .before .before .before .before .before .before .before .before .before in
+    let s = c .before .before .before .before .before .before .before .before .before .before .before .before .before .before .before .before .before .before
+    .before .before .before .before .before .before .before .before .before .before .before .before .before .before in
     let a = s .args in
     let e : true ≡ decodable (networkOf (a .ring) (a .table .now) (a .weights .now)) (a .reported)
     = sym (not-false _ (c .before .before .before .before .before .if1 .left)) ∙ answered (c .before .before .before .before .before .before) in (
       e,
       c .before .before .write-totals .ensures
-          ∙ totals-are (a .ring) (a .table .now) (a .weights .now) (s .pre .0) (a .reported) (a .sums .now) _ _ _ (c .before .before .before .before .before .before .before .before .before .before .before .before .before .before .before .before .before .before .before .before .before .fill-grid .ensures) (s .pre .3) (c .before .before .before .before .before .before .before .before .before .before .before .before .before .before .before .before .before .write-values .ensures)
-          (s .pre .1) (s .pre .2) (true→T _ (sym e)) _ (c .before .before .before .before .before .before .before .before .before .before .before .before .sweep-all .ensures .1) _ (s .pre .5)
-          ∙ ap (λ (b : Bool). cond b (tab (a .ring .parts) (decoded (networkOf (a .ring) (a .table .now) (a .weights .now)) (a .reported) (a .sums .now))) (a .out .now)) e,
+          ∙ totals-are (a .ring) (a .table .now) (a .weights .now) (s .pre .0) (a .reported) (a .sums .now) _ _ _
+          (c .before .before .before .before .before .before .before .before .before .before .before .before .before .before .before .before .before .before
+          .before .before .before .fill-grid .ensures) (s .pre .3)
+          (c .before .before .before .before .before .before .before .before .before .before .before .before .before .before .before .before .before
+          .write-values .ensures)
+          (s .pre .1) (s .pre .2) (true→T _ (sym e)) _
+          (c .before .before .before .before .before .before .before .before .before .before .before .before .sweep-all .ensures .1) _ (s .pre .5)
+          ∙ ap (λ (b : Bool). cond b (tab (a .ring .parts) (decoded (networkOf (a .ring) (a .table .now) (a .weights .now)) (a .reported) (a .sums .now)))
+          (a .out .now)) e,
     )
 
 pub decode-in-spec : {M : Type 1} → statement M

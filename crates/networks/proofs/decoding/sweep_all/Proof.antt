@@ -23,7 +23,13 @@ has-arrived-requires : tie.Need-has-arrived-requires Inv-loop μ-loop
 has-arrived-requires c κs = omega (arith, c .loop-test .taken, c .before .before .before .before .pre .5)
 
 add-sweep : tie.Need-add-sweep Inv-loop μ-loop
-add-sweep c = omega (arith, c .before .before .loop-test .taken, c .before .before .before .before .before .before .pre .4, c .before .before .before .before .before .before .pre .0)
+add-sweep c = omega (
+  arith,
+  c .before .before .loop-test .taken,
+  c .before .before .before .before .before .before .pre .4,
+  c .before .before .before .before
+      .before .before .pre .0,
+)
 
 add-j : tie.Need-add-j Inv-loop μ-loop
 add-j c = omega (arith, c .before .before .loop-test .taken, c .before .before .before .before .before .before .pre .5)
@@ -38,10 +44,12 @@ loop-again c =
       omega (arith, c .before .before .loop-test .taken),
       ⊎-elim
           (λ w.
-          swept-on (a .q) (a .rows) (a .cols) (a .first) (a .reported) (a .table .now) (a .values .now) (l .table) (l .values) (c .if1 .table) (c .if1 .values) (l .j)
+          swept-on (a .q) (a .rows) (a .cols) (a .first) (a .reported) (a .table .now) (a .values .now) (l .table) (l .values) (c .if1 .table) (c .if1 .values)
+          (l .j)
           (sym (c .before .has-arrived .ensures) ∙ w .0 .taken) (w .8 ∙ w .3 .ensures .0) (w .9 ∙ w .3 .ensures .1) (l .inv .1))
           (λ w.
-          swept-past (a .q) (a .rows) (a .cols) (a .first) (a .reported) (a .table .now) (a .values .now) (l .table) (l .values) (c .if1 .table) (c .if1 .values) (l .j)
+          swept-past (a .q) (a .rows) (a .cols) (a .first) (a .reported) (a .table .now) (a .values .now) (l .table) (l .values) (c .if1 .table)
+          (c .if1 .values) (l .j)
           (sym (c .before .has-arrived .ensures) ∙ w .0 .left) (w .1) (w .2) (l .inv .1))
           (c .if1 .came),
     )

@@ -21,25 +21,40 @@ mul-opposite-mod : tie.Need-mul-opposite-mod Inv-loop μ-loop
 mul-opposite-mod c = omega (arith, c .loop-test .taken, c .before .loop .inv .whole, c .before .before .before .before .pre)
 
 shared-slice-read-opposite-mod : tie.Need-shared-slice-read-opposite-mod Inv-loop μ-loop
-shared-slice-read-opposite-mod c = omega (arith, c .before .loop-test .taken, c .before .before .loop .inv .whole, c .before .before .before .before .before .pre)
+shared-slice-read-opposite-mod c = omega
+    (arith, c .before .loop-test .taken, c .before .before .loop .inv .whole, c .before .before .before .before .before .pre)
 
 opposite-mod-requires : tie.Need-opposite-mod-requires Inv-loop μ-loop
 opposite-mod-requires c κs = tt
 
 mul-out : tie.Need-mul-out Inv-loop μ-loop
-mul-out c = omega (arith, c .before .before .loop-test .taken, c .before .before .before .loop .inv .whole, c .before .before .before .before .before .before .pre)
+mul-out c = omega (
+  arith,
+  c .before .before .loop-test .taken,
+  c .before .before .before .loop .inv .whole,
+  c .before .before .before .before .before .before
+      .pre,
+)
 
 slice-write-out : tie.Need-slice-write-out Inv-loop μ-loop
 slice-write-out c = c .before .before .loop-test .taken
 
 add-s : tie.Need-add-s Inv-loop μ-loop
-add-s c = omega (arith, c .before .before .loop-test .taken, c .before .before .before .loop .inv .whole, c .before .before .before .before .before .before .pre)
+add-s c = omega (
+  arith,
+  c .before .before .loop-test .taken,
+  c .before .before .before .loop .inv .whole,
+  c .before .before .before .before .before .before
+      .pre,
+)
 
 loop-less : tie.Need-loop-less Inv-loop μ-loop
-loop-less c = filling-less (c .before .before .before .loop .out) (c .before .before .before .loop .s) (c .opposite-mod .result) (c .before .before .loop-test .taken)
+loop-less c = filling-less (c .before .before .before .loop .out) (c .before .before .before .loop .s) (c .opposite-mod .result)
+    (c .before .before .loop-test .taken)
 
 loop-again : tie.Need-loop-again Inv-loop μ-loop
-loop-again c = filling-next _ _ (c .before .before .before .loop .out) (c .before .before .before .loop .s) _ (c .before .before .before .loop .inv) (c .before .before .loop-test .taken) (c .opposite-mod .ensures)
+loop-again c = filling-next _ _ (c .before .before .before .loop .out) (c .before .before .before .loop .s) _ (c .before .before .before .loop .inv)
+    (c .before .before .loop-test .taken) (c .opposite-mod .ensures)
 
 same-length : tie.Need-same-length Inv-loop μ-loop
 same-length c = c .before .loop .inv .whole

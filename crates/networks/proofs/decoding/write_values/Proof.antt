@@ -28,7 +28,8 @@ mul-values-2 : tie.Need-mul-values-2 Inv-loop μ-loop
 mul-values-2 c = omega (arith, c .before .loop-test .taken, c .before .before .loop .inv .whole, c .before .before .before .pre)
 
 shared-slice-read-values : tie.Need-shared-slice-read-values Inv-loop μ-loop
-shared-slice-read-values c = omega (arith, c .before .if1 .left, c .before .before .loop-test .taken, c .before .before .before .loop .inv .whole, c .before .before .before .before .pre)
+shared-slice-read-values c = omega
+    (arith, c .before .if1 .left, c .before .before .loop-test .taken, c .before .before .before .loop .inv .whole, c .before .before .before .before .pre)
 
 mul-values-3 : tie.Need-mul-values-3 Inv-loop μ-loop
 mul-values-3 c = omega (arith, c .before .before .loop-test .taken, c .before .before .before .loop .inv .whole)
@@ -43,8 +44,10 @@ loop-less : tie.Need-loop-less Inv-loop μ-loop
 loop-less c =
     let l = c .before .before .loop in
     ⊎-elim
-    (λ w. subst (λ (v : List ℕ). length v - (l .r + 1) < length (l .values) - l .r) (sym (w .1)) (filling-less (l .values) (l .r) _ (c .before .loop-test .taken)))
-    (λ w. subst (λ (v : List ℕ). length v - (l .r + 1) < length (l .values) - l .r) (sym (w .2)) (filling-less (l .values) (l .r) _ (c .before .loop-test .taken)))
+    (λ w. subst (λ (v : List ℕ). length v - (l .r + 1) < length (l .values) - l .r) (sym (w .1))
+    (filling-less (l .values) (l .r) _ (c .before .loop-test .taken)))
+    (λ w. subst (λ (v : List ℕ). length v - (l .r + 1) < length (l .values) - l .r) (sym (w .2))
+    (filling-less (l .values) (l .r) _ (c .before .loop-test .taken)))
     (c .if1 .came)
 
 loop-again : tie.Need-loop-again Inv-loop μ-loop
@@ -54,10 +57,12 @@ loop-again c =
     ⊎-elim
     (λ w.
     subst (λ (v : List ℕ). Filling (startAt (a .n) (a .sums .now)) (a .values .now) v (l .r + 1)) (sym (w .1))
-    (filling-next (startAt (a .n) (a .sums .now)) (a .values .now) (l .values) (l .r) _ (l .inv) (c .before .loop-test .taken) (start-low (a .n) (a .sums .now) (l .r) (w .0 .taken))))
+    (filling-next (startAt (a .n) (a .sums .now)) (a .values .now) (l .values) (l .r) _ (l .inv) (c .before .loop-test .taken)
+    (start-low (a .n) (a .sums .now) (l .r) (w .0 .taken))))
     (λ w.
     subst (λ (v : List ℕ). Filling (startAt (a .n) (a .sums .now)) (a .values .now) v (l .r + 1)) (sym (w .2))
-    (filling-next (startAt (a .n) (a .sums .now)) (a .values .now) (l .values) (l .r) _ (l .inv) (c .before .loop-test .taken) (start-high (a .n) (a .sums .now) (l .r) (w .0 .left))))
+    (filling-next (startAt (a .n) (a .sums .now)) (a .values .now) (l .values) (l .r) _ (l .inv) (c .before .loop-test .taken)
+    (start-high (a .n) (a .sums .now) (l .r) (w .0 .left))))
     (c .if1 .came)
 
 same-length : tie.Need-same-length Inv-loop μ-loop

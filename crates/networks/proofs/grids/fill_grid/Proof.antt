@@ -24,20 +24,26 @@ abbrev μ-loop : tie.MeasureT-loop
 room : (c : tie.In-loop Inv-loop μ-loop) → c .before .loop .t < 576
 room c =
     let s = c .before .before .before .before .before .before .before in
-    omega (arith, c .loop-test .taken, c .before .loop .inv .whole, s .pre .4, few-cells (s .args .ring) (s .pre .0 .counted) (s .args .w) (s .args .first) (s .args .from))
+    omega (
+      arith,
+      c .loop-test .taken,
+      c .before .loop .inv .whole,
+      s .pre .4,
+      few-cells (s .args .ring) (s .pre .0 .counted) (s .args .w) (s .args .first)
+          (s .args .from),
+    )
 
-row-place : (c : tie.In-loop Inv-loop μ-loop)
-    → c .before .before .before .before .before .before .before .args .first + c .before .loop .t / (c .before .before .before .before .before .before .before .args .ring .size * c .before .before .before .before .before .before .before .args .ring .parts + c .before .before .before .before .before .before .before .args .ring .rate - c .before .before .before .before .before .before .before .args .from)
-    < rowsSeen (c .before .before .before .before .before .before .before .args .ring) (c .before .before .before .before .before .before .before .args .w)
+row-place : (c : tie.In-loop Inv-loop μ-loop) → (let a = c .before .before .before .before .before .before .before .args in a .first + c .before .loop .t /
+    (a .ring .size * a .ring .parts + a .ring .rate - a .from) < rowsSeen (a .ring) (a .w))
 row-place c =
     let s = c .before .before .before .before .before .before .before in
     let a = s .args in
-    cell-row (a .ring) (s .pre .0 .counted) (rowsSeen (a .ring) (a .w)) (a .first) (a .ring .size * a .ring .parts + a .ring .rate - a .from) (c .before .loop .t)
+    cell-row (a .ring) (s .pre .0 .counted) (rowsSeen (a .ring) (a .w)) (a .first) (a .ring .size * a .ring .parts + a .ring .rate - a .from)
+    (c .before .loop .t)
     (omega (arith, s .pre .3)) (s .pre .2) (omega (arith, c .loop-test .taken, c .before .loop .inv .whole, s .pre .4))
 
-column-place : (c : tie.In-loop Inv-loop μ-loop)
-    → c .before .before .before .before .before .before .before .args .from + c .before .loop .t % (c .before .before .before .before .before .before .before .args .ring .size * c .before .before .before .before .before .before .before .args .ring .parts + c .before .before .before .before .before .before .before .args .ring .rate - c .before .before .before .before .before .before .before .args .from)
-    < c .before .before .before .before .before .before .before .args .ring .size * c .before .before .before .before .before .before .before .args .ring .parts + c .before .before .before .before .before .before .before .args .ring .rate
+column-place : (c : tie.In-loop Inv-loop μ-loop) → (let a = c .before .before .before .before .before .before .before .args in a .from + c .before .loop .t %
+    (a .ring .size * a .ring .parts + a .ring .rate - a .from) < a .ring .size * a .ring .parts + a .ring .rate)
 column-place c =
     let s = c .before .before .before .before .before .before .before in
     let a = s .args in
@@ -59,16 +65,28 @@ div-entry-at : tie.Need-div-entry-at Inv-loop μ-loop
 div-entry-at c = omega (arith, c .before .before .before .before .before .before .before .pre .3)
 
 add-entry-at : tie.Need-add-entry-at Inv-loop μ-loop
-add-entry-at c = omega (arith, row-place c, few-rows (c .before .before .before .before .before .before .before .args .ring) (c .before .before .before .before .before .before .before .pre .0 .counted) (c .before .before .before .before .before .before .before .args .w))
+add-entry-at c =
+    let a = c .before .before .before .before .before .before .before .args in
+    omega (arith, row-place c, few-rows (a .ring) (c .before .before .before .before .before .before .before .pre .0 .counted) (a .w))
 
 rem-entry-at : tie.Need-rem-entry-at Inv-loop μ-loop
 rem-entry-at c = omega (arith, c .before .before .before .before .before .before .before .pre .3)
 
 add-entry-at-2 : tie.Need-add-entry-at-2 Inv-loop μ-loop
-add-entry-at-2 c = omega (arith, column-place c, few-columns (c .before .before .before .before .before .before .before .args .ring) (c .before .before .before .before .before .before .before .pre .0 .counted))
+add-entry-at-2 c = omega (
+  arith,
+  column-place c,
+  few-columns (c .before .before .before .before .before .before .before .args .ring)
+      (c .before .before .before .before .before .before .before .pre .0 .counted),
+)
 
 entry-at-requires : tie.Need-entry-at-requires Inv-loop μ-loop
-entry-at-requires c κs = (c .before .before .before .before .before .before .before .pre .0, c .before .before .before .before .before .before .before .pre .1, row-place c, column-place c)
+entry-at-requires c κs = (
+  c .before .before .before .before .before .before .before .pre .0,
+  c .before .before .before .before .before .before .before .pre .1,
+  row-place c,
+  column-place c,
+)
 
 mul-out : tie.Need-mul-out Inv-loop μ-loop
 mul-out c = omega (arith, room (c .before))

@@ -22,7 +22,8 @@ Inv-loop ring table weights j s sum₀ l₀ sum l = (l ≤ ring .links) × (sum 
 abbrev μ-loop : tie.MeasureT-loop
 μ-loop ring table weights j s sum₀ l₀ sum l = ring .links - l
 
-place : (s : tie.Start Inv-loop μ-loop) (l : ℕ) → (s .args .j + l) % s .args .ring .size * s .args .ring .rate + s .args .s < s .args .ring .size * s .args .ring .rate
+place : (s : tie.Start Inv-loop μ-loop) (l : ℕ)
+    → (s .args .j + l) % s .args .ring .size * s .args .ring .rate + s .args .s < s .args .ring .size * s .args .ring .rate
 place s l =
     let a = s .args in
     key-place (a .ring) (s .pre .0 .counted) ((a .j + l) % a .ring .size) (a .s) (around (a .ring) (s .pre .0 .counted) (a .j + l)) (s .pre .2)
@@ -34,7 +35,12 @@ loop-holds : tie.Need-loop-holds Inv-loop μ-loop
 loop-holds c = (zero-le, kept-none _ _)
 
 add-k : tie.Need-add-k Inv-loop μ-loop
-add-k c = omega (arith, c .before .before .before .before .before .pre .0 .counted .size-high, c .before .before .before .before .before .pre .0 .counted .links-high)
+add-k c = omega (
+  arith,
+  c .before .before .before .before .before .pre .0 .counted .size-high,
+  c .before .before .before .before .before .pre .0 .counted
+      .links-high,
+)
 
 rem-k : tie.Need-rem-k Inv-loop μ-loop
 rem-k c = omega (arith, c .before .before .before .before .before .before .pre .0 .counted .size-low)
@@ -45,22 +51,44 @@ weight-at-requires c κs =
     (s .pre .0, around (s .args .ring) (s .pre .0 .counted) _, omega arith, le-refl _)
 
 mul-mul-add-mod : tie.Need-mul-mul-add-mod Inv-loop μ-loop
-mul-mul-add-mod c = omega (arith, placed (c .before .before .before .before .before .before .before .before) (c .before .before .before .before .before .loop .l))
+mul-mul-add-mod c = omega (
+  arith,
+  placed (c .before .before .before .before .before .before .before .before)
+      (c .before .before .before .before .before .loop .l),
+)
 
 add-mul-add-mod : tie.Need-add-mul-add-mod Inv-loop μ-loop
-add-mul-add-mod c = omega (arith, placed (c .before .before .before .before .before .before .before .before) (c .before .before .before .before .before .loop .l))
+add-mul-add-mod c = omega (
+  arith,
+  placed (c .before .before .before .before .before .before .before .before)
+      (c .before .before .before .before .before .loop .l),
+)
 
 mul-mul-add-mod-2 : tie.Need-mul-mul-add-mod-2 Inv-loop μ-loop
-mul-mul-add-mod-2 c = omega (arith, placed (c .before .before .before .before .before .before .before .before) (c .before .before .before .before .before .loop .l))
+mul-mul-add-mod-2 c = omega (
+  arith,
+  placed (c .before .before .before .before .before .before .before .before)
+      (c .before .before .before .before .before .loop .l),
+)
 
 shared-slice-read-mul-add-mod : tie.Need-shared-slice-read-mul-add-mod Inv-loop μ-loop
-shared-slice-read-mul-add-mod c = omega (arith, place (c .before .before .before .before .before .before .before .before .before) (c .before .before .before .before .before .before .loop .l), c .before .before .before .before .before .before .before .before .before .pre .0 .table)
+shared-slice-read-mul-add-mod c = omega (
+  arith,
+  place (c .before .before .before .before .before .before .before .before .before)
+      (c .before .before .before .before .before .before .loop .l),
+  c .before .before .before .before .before .before .before .before .before .pre .0 .table,
+)
 
 mul-add-mod-requires : tie.Need-mul-add-mod-requires Inv-loop μ-loop
 mul-add-mod-requires c κs = tt
 
 add-l : tie.Need-add-l Inv-loop μ-loop
-add-l c = omega (arith, c .before .before .before .before .before .before .before .before .before .before .pre .0 .counted .size-high, c .before .before .before .before .before .before .before .before .before .before .pre .0 .counted .links-high)
+add-l c = omega (
+  arith,
+  c .before .before .before .before .before .before .before .before .before .before .pre .0 .counted .size-high,
+  c .before .before .before
+      .before .before .before .before .before .before .before .pre .0 .counted .links-high,
+)
 
 loop-less : tie.Need-loop-less Inv-loop μ-loop
 loop-less c = omega arith

@@ -65,7 +65,12 @@ mul-mul-mod-2 : tie.Need-mul-mul-mod-2
 mul-mul-mod-2 c = omega (arith, placed (c .before .before .before .before .before .before) (omega arith))
 
 shared-slice-read-mul-mod : tie.Need-shared-slice-read-mul-mod
-shared-slice-read-mul-mod c = omega (arith, place (c .before .before .before .before .before .before .before) (omega arith), c .before .before .before .before .before .before .before .pre .0 .table)
+shared-slice-read-mul-mod c = omega (
+  arith,
+  place (c .before .before .before .before .before .before .before)
+      (omega arith),
+  c .before .before .before .before .before .before .before .pre .0 .table,
+)
 
 mul-mod-requires : tie.Need-mul-mod-requires
 mul-mod-requires c κs = search needs
@@ -76,8 +81,11 @@ returns-3 c =
     let C : Network = networkOf (a .ring) (a .table .now) (a .weights .now) in
     let h : a .ring .size * a .ring .parts ≤ a .c = omega arith in
     c .mul-mod .ensures
-    ∙ residue-mod (a .ring .q) (c .before .before .before .weight-at2 .result * at (a .table .now) (a .k * a .ring .rate + (a .c - a .ring .size * a .ring .parts))) (prime-pos (c .before .before .before .before .before .before .before .before .pre .0 .prime))
-    ∙ ap (λ (z : ℕ). z * at (a .table .now) (a .k * a .ring .rate + (a .c - a .ring .size * a .ring .parts)) % a .ring .q) (c .before .before .before .weight-at2 .ensures)
+    ∙ residue-mod (a .ring .q) (c .before .before .before .weight-at2 .result * at (a .table .now)
+    (a .k * a .ring .rate + (a .c - a .ring .size * a .ring .parts)))
+    (prime-pos (c .before .before .before .before .before .before .before .before .pre .0 .prime))
+    ∙ ap (λ (z : ℕ). z * at (a .table .now) (a .k * a .ring .rate + (a .c - a .ring .size * a .ring .parts)) % a .ring .q)
+    (c .before .before .before .weight-at2 .ensures)
     ∙ upload-out C (a .k) (a .l) (a .c) h
 
 pub upload-at-spec : {M : Type 1} → statement M

@@ -35,8 +35,11 @@ loop-less c = omega (arith, c .before .before .loop-test .taken)
 loop-again : tie.Need-loop-again Inv-loop μ-loop
 loop-again c =
     let a = c .before .before .before .before .before .args in
-    let l = c .before .before .before .loop in
-    (omega (arith, c .before .before .loop-test .taken), c .add-mod .ensures ∙ kept-next (a .q) (λ i. at (a .uploads .now) i) (l .l) (l .sum) _ (c .before .before .before .before .before .pre) (l .inv .1) refl)
+    let l = c .before .before .before .loop in (
+      omega (arith, c .before .before .loop-test .taken),
+      c .add-mod .ensures ∙ kept-next (a .q) (λ i. at (a .uploads .now) i) (l .l) (l .sum) _
+          (c .before .before .before .before .before .pre) (l .inv .1) refl,
+    )
 
 returns : tie.Need-returns Inv-loop μ-loop
 returns c =

@@ -19,7 +19,8 @@ is-accepted-requires c κs = search needs
 returns : tie.Need-returns
 returns c =
     let a = c .before .before .before .before .args in
-    first-answers (countChecks (a .ring)) (symbolChecks (a .ring .q) (eqb (length (a .uploads .now)) (a .ring .links)) (allBelow (a .ring .q) (a .uploads .now)))
+    first-answers (countChecks (a .ring)) (symbolChecks (a .ring .q) (eqb (length (a .uploads .now)) (a .ring .links))
+    (allBelow (a .ring .q) (a .uploads .now)))
     (c .before .before .check-counts .result) (c .before .before .check-counts .ensures) (c .before .is-accepted .ensures) (c .if1 .taken)
 
 all-below-requires : tie.Need-all-below-requires
@@ -33,8 +34,10 @@ returns-2 c =
     let a = c .before .before .before .before .before .before .before .args in
     c .check-symbols .ensures
     ∙ ap (λ (y : Bool). firstOf (symbolChecks (a .ring .q) (eqb (length (a .uploads .now)) (a .ring .links)) y)) (c .before .all-below .ensures)
-    ∙ second-answers (countChecks (a .ring)) (symbolChecks (a .ring .q) (eqb (length (a .uploads .now)) (a .ring .links)) (allBelow (a .ring .q) (a .uploads .now)))
-    (c .before .before .before .before .before .check-counts .result) (c .before .before .before .before .before .check-counts .ensures) (c .before .before .before .before .is-accepted .ensures) tt (c .before .before .before .if1 .left)
+    ∙ second-answers (countChecks (a .ring)) (symbolChecks (a .ring .q) (eqb (length (a .uploads .now)) (a .ring .links))
+    (allBelow (a .ring .q) (a .uploads .now)))
+    (c .before .before .before .before .before .check-counts .result) (c .before .before .before .before .before .check-counts .ensures)
+    (c .before .before .before .before .is-accepted .ensures) tt (c .before .before .before .if1 .left)
 
 pub check-sum-spec : {M : Type 1} → statement M
 check-sum-spec =

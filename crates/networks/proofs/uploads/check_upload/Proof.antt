@@ -16,14 +16,19 @@ use Rattle.networks.proofs.uploads.check_upload.Statement.{statement}
 use Rattle.networks.proofs.uploads.check_upload.Tie as tie
 
 -- the answer of the first two lists of checks
-symbols-say : (c : tie.After-check-symbols) → verdictCode (c .check-symbols .result) ≡ firstOf (countChecks (c .before .before .before .before .before .before .before .before .args .ring) ++ (symbolChecks (c .before .before .before .before .before .before .before .before .args .ring .q) (weightsFit (c .before .before .before .before .before .before .before .before .args .ring) (c .before .before .before .before .before .before .before .before .args .weights .now) && eqb (length (c .before .before .before .before .before .before .before .before .args .reading .now)) (c .before .before .before .before .before .before .before .before .args .ring .parts))
-    (allBelow (c .before .before .before .before .before .before .before .before .args .ring .q) (c .before .before .before .before .before .before .before .before .args .weights .now) && allBelow (c .before .before .before .before .before .before .before .before .args .ring .q) (c .before .before .before .before .before .before .before .before .args .reading .now) && ltb (c .before .before .before .before .before .before .before .before .args .key) (c .before .before .before .before .before .before .before .before .args .ring .q))))
+symbols-say : (c : tie.After-check-symbols) → (let a = c .before .before .before .before .before .before .before .before .args in verdictCode
+    (c .check-symbols .result) ≡ firstOf (countChecks (a .ring) ++
+    (symbolChecks (a .ring .q) (weightsFit (a .ring) (a .weights .now) && eqb (length (a .reading .now)) (a .ring .parts))
+    (allBelow (a .ring .q) (a .weights .now) && allBelow (a .ring .q) (a .reading .now) && ltb (a .key) (a .ring .q)))))
 symbols-say c =
+    let a = c .before .before .before .before .before .before .before .before .args in
     c .check-symbols .ensures
-    ∙ ap₂ (λ (x y : Bool). firstOf (symbolChecks (c .before .before .before .before .before .before .before .before .args .ring .q) x y)) (c .before .before .upload-lengths .ensures) (c .before .upload-below .ensures)
-    ∙ second-answers (countChecks (c .before .before .before .before .before .before .before .before .args .ring)) (symbolChecks (c .before .before .before .before .before .before .before .before .args .ring .q) (weightsFit (c .before .before .before .before .before .before .before .before .args .ring) (c .before .before .before .before .before .before .before .before .args .weights .now) && eqb (length (c .before .before .before .before .before .before .before .before .args .reading .now)) (c .before .before .before .before .before .before .before .before .args .ring .parts))
-    (allBelow (c .before .before .before .before .before .before .before .before .args .ring .q) (c .before .before .before .before .before .before .before .before .args .weights .now) && allBelow (c .before .before .before .before .before .before .before .before .args .ring .q) (c .before .before .before .before .before .before .before .before .args .reading .now) && ltb (c .before .before .before .before .before .before .before .before .args .key) (c .before .before .before .before .before .before .before .before .args .ring .q)))
-    (c .before .before .before .before .before .check-counts .result) (c .before .before .before .before .before .check-counts .ensures) (c .before .before .before .before .is-accepted .ensures) tt (c .before .before .before .if1 .left)
+    ∙ ap₂ (λ (x y : Bool). firstOf (symbolChecks (a .ring .q) x y)) (c .before .before .upload-lengths .ensures) (c .before .upload-below .ensures)
+    ∙ second-answers (countChecks (a .ring)) (symbolChecks (a .ring .q)
+    (weightsFit (a .ring) (a .weights .now) && eqb (length (a .reading .now)) (a .ring .parts))
+    (allBelow (a .ring .q) (a .weights .now) && allBelow (a .ring .q) (a .reading .now) && ltb (a .key) (a .ring .q)))
+    (c .before .before .before .before .before .check-counts .result) (c .before .before .before .before .before .check-counts .ensures)
+    (c .before .before .before .before .is-accepted .ensures) tt (c .before .before .before .if1 .left)
 
 check-counts-requires : tie.Need-check-counts-requires
 check-counts-requires c κs = search needs
@@ -33,10 +38,12 @@ is-accepted-requires c κs = search needs
 
 returns : tie.Need-returns
 returns c =
-    first-answers (countChecks (c .before .before .before .before .before .args .ring)) ((symbolChecks (c .before .before .before .before .before .args .ring .q) (weightsFit (c .before .before .before .before .before .args .ring) (c .before .before .before .before .before .args .weights .now) && eqb (length (c .before .before .before .before .before .args .reading .now)) (c .before .before .before .before .before .args .ring .parts))
-    (allBelow (c .before .before .before .before .before .args .ring .q) (c .before .before .before .before .before .args .weights .now) && allBelow (c .before .before .before .before .before .args .ring .q) (c .before .before .before .before .before .args .reading .now) && ltb (c .before .before .before .before .before .args .key) (c .before .before .before .before .before .args .ring .q))) ++ ((
-      not (leb 1 (c .before .before .before .before .before .args .user) && leb (c .before .before .before .before .before .args .user) (c .before .before .before .before .before .args .ring .size) && leb 1 (c .before .before .before .before .before .args .relay) && leb (c .before .before .before .before .before .args .relay) (c .before .before .before .before .before .args .ring .size)
-          && linked (networkOf (c .before .before .before .before .before .args .ring) [] []) (c .before .before .before .before .before .args .user - 1) (c .before .before .before .before .before .args .relay - 1)),
+    let a = c .before .before .before .before .before .args in
+    first-answers (countChecks (a .ring))
+    ((symbolChecks (a .ring .q) (weightsFit (a .ring) (a .weights .now) && eqb (length (a .reading .now)) (a .ring .parts))
+    (allBelow (a .ring .q) (a .weights .now) && allBelow (a .ring .q) (a .reading .now) && ltb (a .key) (a .ring .q))) ++ ((
+      not (leb 1 (a .user) && leb (a .user) (a .ring .size) && leb 1 (a .relay) && leb (a .relay) (a .ring .size)
+          && linked (networkOf (a .ring) [] []) (a .user - 1) (a .relay - 1)),
       code 8,
     ) ∷ []))
     (c .before .before .check-counts .result) (c .before .before .check-counts .ensures) (c .before .is-accepted .ensures) (c .if1 .taken)
@@ -57,10 +64,12 @@ is-accepted-requires-2 c κs = search needs
 
 returns-2 : tie.Need-returns-2
 returns-2 c =
-    first-answers (countChecks (c .before .before .before .before .before .before .before .before .before .before .args .ring) ++ (symbolChecks (c .before .before .before .before .before .before .before .before .before .before .args .ring .q) (weightsFit (c .before .before .before .before .before .before .before .before .before .before .args .ring) (c .before .before .before .before .before .before .before .before .before .before .args .weights .now) && eqb (length (c .before .before .before .before .before .before .before .before .before .before .args .reading .now)) (c .before .before .before .before .before .before .before .before .before .before .args .ring .parts))
-    (allBelow (c .before .before .before .before .before .before .before .before .before .before .args .ring .q) (c .before .before .before .before .before .before .before .before .before .before .args .weights .now) && allBelow (c .before .before .before .before .before .before .before .before .before .before .args .ring .q) (c .before .before .before .before .before .before .before .before .before .before .args .reading .now) && ltb (c .before .before .before .before .before .before .before .before .before .before .args .key) (c .before .before .before .before .before .before .before .before .before .before .args .ring .q)))) ((
-      not (leb 1 (c .before .before .before .before .before .before .before .before .before .before .args .user) && leb (c .before .before .before .before .before .before .before .before .before .before .args .user) (c .before .before .before .before .before .before .before .before .before .before .args .ring .size) && leb 1 (c .before .before .before .before .before .before .before .before .before .before .args .relay) && leb (c .before .before .before .before .before .before .before .before .before .before .args .relay) (c .before .before .before .before .before .before .before .before .before .before .args .ring .size)
-          && linked (networkOf (c .before .before .before .before .before .before .before .before .before .before .args .ring) [] []) (c .before .before .before .before .before .before .before .before .before .before .args .user - 1) (c .before .before .before .before .before .before .before .before .before .before .args .relay - 1)),
+    let a = c .before .before .before .before .before .before .before .before .before .before .args in
+    first-answers (countChecks (a .ring) ++ (symbolChecks (a .ring .q)
+    (weightsFit (a .ring) (a .weights .now) && eqb (length (a .reading .now)) (a .ring .parts))
+    (allBelow (a .ring .q) (a .weights .now) && allBelow (a .ring .q) (a .reading .now) && ltb (a .key) (a .ring .q)))) ((
+      not (leb 1 (a .user) && leb (a .user) (a .ring .size) && leb 1 (a .relay) && leb (a .relay) (a .ring .size)
+          && linked (networkOf (a .ring) [] []) (a .user - 1) (a .relay - 1)),
       code 8,
     ) ∷ [])
     (c .before .before .check-symbols .result) (symbols-say (c .before .before)) (c .before .is-accepted2 .ensures) (c .if2 .taken)
@@ -68,29 +77,37 @@ returns-2 c =
 are-linked-requires : tie.Need-are-linked-requires
 are-linked-requires c κs =
     counted-known (c .before .before .before .before .before .before .before .before .before .before .args .ring)
-    (passes (c .before .before .before .before .before .before .before .check-counts .result) (c .before .before .before .before .before .before .before .check-counts .ensures) (c .before .before .before .before .before .before .is-accepted .ensures) (not-false _ (c .before .before .before .before .before .if1 .left)))
+    (passes (c .before .before .before .before .before .before .before .check-counts .result)
+    (c .before .before .before .before .before .before .before .check-counts .ensures) (c .before .before .before .before .before .before .is-accepted .ensures)
+    (not-false _ (c .before .before .before .before .before .if1 .left)))
 
 returns-3 : tie.Need-returns-3
 returns-3 c =
+    let a = c .before .before .before .before .before .before .before .before .before .before .before .before .args in
     sym (ap (λ (x : Bool). firstOf ((not x, code 8) ∷ [])) (sym (c .before .are-linked .ensures) ∙ not-true _ (c .if3 .taken)))
-    ∙ second-answers (countChecks (c .before .before .before .before .before .before .before .before .before .before .before .before .args .ring) ++ (symbolChecks (c .before .before .before .before .before .before .before .before .before .before .before .before .args .ring .q) (weightsFit (c .before .before .before .before .before .before .before .before .before .before .before .before .args .ring) (c .before .before .before .before .before .before .before .before .before .before .before .before .args .weights .now) && eqb (length (c .before .before .before .before .before .before .before .before .before .before .before .before .args .reading .now)) (c .before .before .before .before .before .before .before .before .before .before .before .before .args .ring .parts))
-    (allBelow (c .before .before .before .before .before .before .before .before .before .before .before .before .args .ring .q) (c .before .before .before .before .before .before .before .before .before .before .before .before .args .weights .now) && allBelow (c .before .before .before .before .before .before .before .before .before .before .before .before .args .ring .q) (c .before .before .before .before .before .before .before .before .before .before .before .before .args .reading .now) && ltb (c .before .before .before .before .before .before .before .before .before .before .before .before .args .key) (c .before .before .before .before .before .before .before .before .before .before .before .before .args .ring .q)))) ((
-      not (leb 1 (c .before .before .before .before .before .before .before .before .before .before .before .before .args .user) && leb (c .before .before .before .before .before .before .before .before .before .before .before .before .args .user) (c .before .before .before .before .before .before .before .before .before .before .before .before .args .ring .size) && leb 1 (c .before .before .before .before .before .before .before .before .before .before .before .before .args .relay) && leb (c .before .before .before .before .before .before .before .before .before .before .before .before .args .relay) (c .before .before .before .before .before .before .before .before .before .before .before .before .args .ring .size)
-          && linked (networkOf (c .before .before .before .before .before .before .before .before .before .before .before .before .args .ring) [] []) (c .before .before .before .before .before .before .before .before .before .before .before .before .args .user - 1) (c .before .before .before .before .before .before .before .before .before .before .before .before .args .relay - 1)),
+    ∙ second-answers (countChecks (a .ring) ++ (symbolChecks (a .ring .q)
+    (weightsFit (a .ring) (a .weights .now) && eqb (length (a .reading .now)) (a .ring .parts))
+    (allBelow (a .ring .q) (a .weights .now) && allBelow (a .ring .q) (a .reading .now) && ltb (a .key) (a .ring .q)))) ((
+      not (leb 1 (a .user) && leb (a .user) (a .ring .size) && leb 1 (a .relay) && leb (a .relay) (a .ring .size)
+          && linked (networkOf (a .ring) [] []) (a .user - 1) (a .relay - 1)),
       code 8,
     ) ∷ [])
-    (c .before .before .before .before .check-symbols .result) (symbols-say (c .before .before .before .before)) (c .before .before .before .is-accepted2 .ensures) tt (c .before .before .if2 .left)
+    (c .before .before .before .before .check-symbols .result) (symbols-say (c .before .before .before .before))
+    (c .before .before .before .is-accepted2 .ensures) tt (c .before .before .if2 .left)
 
 returns-4 : tie.Need-returns-4
 returns-4 c =
+    let a = c .before .before .before .before .before .before .before .before .before .before .before .before .args in
     sym (ap (λ (x : Bool). firstOf ((not x, code 8) ∷ [])) (sym (c .before .are-linked .ensures) ∙ not-false _ (c .if3 .left)))
-    ∙ second-answers (countChecks (c .before .before .before .before .before .before .before .before .before .before .before .before .args .ring) ++ (symbolChecks (c .before .before .before .before .before .before .before .before .before .before .before .before .args .ring .q) (weightsFit (c .before .before .before .before .before .before .before .before .before .before .before .before .args .ring) (c .before .before .before .before .before .before .before .before .before .before .before .before .args .weights .now) && eqb (length (c .before .before .before .before .before .before .before .before .before .before .before .before .args .reading .now)) (c .before .before .before .before .before .before .before .before .before .before .before .before .args .ring .parts))
-    (allBelow (c .before .before .before .before .before .before .before .before .before .before .before .before .args .ring .q) (c .before .before .before .before .before .before .before .before .before .before .before .before .args .weights .now) && allBelow (c .before .before .before .before .before .before .before .before .before .before .before .before .args .ring .q) (c .before .before .before .before .before .before .before .before .before .before .before .before .args .reading .now) && ltb (c .before .before .before .before .before .before .before .before .before .before .before .before .args .key) (c .before .before .before .before .before .before .before .before .before .before .before .before .args .ring .q)))) ((
-      not (leb 1 (c .before .before .before .before .before .before .before .before .before .before .before .before .args .user) && leb (c .before .before .before .before .before .before .before .before .before .before .before .before .args .user) (c .before .before .before .before .before .before .before .before .before .before .before .before .args .ring .size) && leb 1 (c .before .before .before .before .before .before .before .before .before .before .before .before .args .relay) && leb (c .before .before .before .before .before .before .before .before .before .before .before .before .args .relay) (c .before .before .before .before .before .before .before .before .before .before .before .before .args .ring .size)
-          && linked (networkOf (c .before .before .before .before .before .before .before .before .before .before .before .before .args .ring) [] []) (c .before .before .before .before .before .before .before .before .before .before .before .before .args .user - 1) (c .before .before .before .before .before .before .before .before .before .before .before .before .args .relay - 1)),
+    ∙ second-answers (countChecks (a .ring) ++ (symbolChecks (a .ring .q)
+    (weightsFit (a .ring) (a .weights .now) && eqb (length (a .reading .now)) (a .ring .parts))
+    (allBelow (a .ring .q) (a .weights .now) && allBelow (a .ring .q) (a .reading .now) && ltb (a .key) (a .ring .q)))) ((
+      not (leb 1 (a .user) && leb (a .user) (a .ring .size) && leb 1 (a .relay) && leb (a .relay) (a .ring .size)
+          && linked (networkOf (a .ring) [] []) (a .user - 1) (a .relay - 1)),
       code 8,
     ) ∷ [])
-    (c .before .before .before .before .check-symbols .result) (symbols-say (c .before .before .before .before)) (c .before .before .before .is-accepted2 .ensures) tt (c .before .before .if2 .left)
+    (c .before .before .before .before .check-symbols .result) (symbols-say (c .before .before .before .before))
+    (c .before .before .before .is-accepted2 .ensures) tt (c .before .before .if2 .left)
 
 pub check-upload-spec : {M : Type 1} → statement M
 check-upload-spec =

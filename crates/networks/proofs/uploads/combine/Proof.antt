@@ -54,16 +54,31 @@ loop-holds : tie.Need-loop-holds Inv-loop μ-loop
 loop-holds c = (zero-le, kept-none _ _)
 
 add-mul-add-mod : tie.Need-add-mul-add-mod Inv-loop μ-loop
-add-mul-add-mod c = omega (arith, placed (c .before .before .before .before .before .before) (c .before .loop .s) (omega (arith, c .loop-test .taken, c .before .before .before .before .before .before .pre .5)))
+add-mul-add-mod c = omega (
+  arith,
+  placed (c .before .before .before .before .before .before) (c .before .loop .s)
+      (omega (arith, c .loop-test .taken, c .before .before .before .before .before .before .pre .5)),
+)
 
 mul-mul-add-mod : tie.Need-mul-mul-add-mod Inv-loop μ-loop
-mul-mul-add-mod c = omega (arith, placed (c .before .before .before .before .before .before) (c .before .loop .s) (omega (arith, c .loop-test .taken, c .before .before .before .before .before .before .pre .5)))
+mul-mul-add-mod c = omega (
+  arith,
+  placed (c .before .before .before .before .before .before) (c .before .loop .s)
+      (omega (arith, c .loop-test .taken, c .before .before .before .before .before .before .pre .5)),
+)
 
 shared-slice-read-mul-add-mod : tie.Need-shared-slice-read-mul-add-mod Inv-loop μ-loop
-shared-slice-read-mul-add-mod c = place (c .before .before .before .before .before .before .before) (c .before .before .loop .s) (omega (arith, c .before .loop-test .taken, c .before .before .before .before .before .before .before .pre .5))
+shared-slice-read-mul-add-mod c = place (c .before .before .before .before .before .before .before) (c .before .before .loop .s)
+    (omega (arith, c .before .loop-test .taken, c .before .before .before .before .before .before .before .pre .5))
 
 mul-mul-add-mod-2 : tie.Need-mul-mul-add-mod-2 Inv-loop μ-loop
-mul-mul-add-mod-2 c = omega (arith, c .before .loop-test .taken, c .before .before .before .before .before .before .before .pre .5, c .before .before .before .before .before .before .before .pre .0 .parts-high)
+mul-mul-add-mod-2 c = omega (
+  arith,
+  c .before .loop-test .taken,
+  c .before .before .before .before .before .before .before .pre .5,
+  c .before .before .before
+      .before .before .before .before .pre .0 .parts-high,
+)
 
 shared-slice-read-mul-add-mod-2 : tie.Need-shared-slice-read-mul-add-mod-2 Inv-loop μ-loop
 shared-slice-read-mul-add-mod-2 c = c .before .before .loop-test .taken
@@ -72,7 +87,13 @@ mul-add-mod-requires : tie.Need-mul-add-mod-requires Inv-loop μ-loop
 mul-add-mod-requires c κs = tt
 
 add-s : tie.Need-add-s Inv-loop μ-loop
-add-s c = omega (arith, c .before .before .before .loop-test .taken, c .before .before .before .before .before .before .before .before .before .pre .5, c .before .before .before .before .before .before .before .before .before .pre .0 .parts-high)
+add-s c = omega (
+  arith,
+  c .before .before .before .loop-test .taken,
+  c .before .before .before .before .before .before .before .before .before .pre .5,
+  c
+      .before .before .before .before .before .before .before .before .before .pre .0 .parts-high,
+)
 
 loop-less : tie.Need-loop-less Inv-loop μ-loop
 loop-less c = omega (arith, c .before .before .before .loop-test .taken)
@@ -84,17 +105,27 @@ loop-again c =
     let l = c .before .before .before .before .loop in (
       omega (arith, c .before .before .before .loop-test .taken),
       c .mul-add-mod .ensures
-          ∙ kept-next (a .ring .q) (term (a .ring) (a .weights .now) (a .k) (a .l) (a .reading .now)) (l .s) (l .sum) _ (c .before .before .before .before .before .before .before .before .before .pre .1) (l .inv .1) refl,
+          ∙ kept-next (a .ring .q) (term (a .ring) (a .weights .now) (a .k) (a .l) (a .reading .now)) (l .s) (l .sum) _
+          (c .before .before .before .before .before .before .before .before .before .pre .1) (l .inv .1) refl,
     )
 
 add-mul-add-mod-2 : tie.Need-add-mul-add-mod-2 Inv-loop μ-loop
-add-mul-add-mod-2 c = omega (arith, placed (c .before .before .before .before .before .before) (c .before .loop .s) (omega (arith, c .before .before .before .before .before .before .pre .5)))
+add-mul-add-mod-2 c = omega (
+  arith,
+  placed (c .before .before .before .before .before .before) (c .before .loop .s)
+      (omega (arith, c .before .before .before .before .before .before .pre .5)),
+)
 
 mul-mul-add-mod-3 : tie.Need-mul-mul-add-mod-3 Inv-loop μ-loop
-mul-mul-add-mod-3 c = omega (arith, placed (c .before .before .before .before .before .before) (c .before .loop .s) (omega (arith, c .before .before .before .before .before .before .pre .5)))
+mul-mul-add-mod-3 c = omega (
+  arith,
+  placed (c .before .before .before .before .before .before) (c .before .loop .s)
+      (omega (arith, c .before .before .before .before .before .before .pre .5)),
+)
 
 shared-slice-read-mul-add-mod-3 : tie.Need-shared-slice-read-mul-add-mod-3 Inv-loop μ-loop
-shared-slice-read-mul-add-mod-3 c = place (c .before .before .before .before .before .before .before) (c .before .before .loop .s) (omega (arith, c .before .before .before .before .before .before .before .pre .5))
+shared-slice-read-mul-add-mod-3 c = place (c .before .before .before .before .before .before .before) (c .before .before .loop .s)
+    (omega (arith, c .before .before .before .before .before .before .before .pre .5))
 
 mul-add-mod-requires-2 : tie.Need-mul-add-mod-requires-2 Inv-loop μ-loop
 mul-add-mod-requires-2 c κs = tt
@@ -104,11 +135,14 @@ unfolding uploadOf term weight
 returns c =
     let a = c .before .before .before .before .before .before .before .before .args in
     let l = c .before .before .before .loop in
-    let e : l .s ≡ a .ring .parts = omega (arith, c .before .before .loop-test .left, c .before .before .before .before .before .before .before .before .pre .5) in
+    let e : l .s ≡ a .ring .parts = omega
+    (arith, c .before .before .loop-test .left, c .before .before .before .before .before .before .before .before .pre .5) in
     c .mul-add-mod2 .ensures
     ∙ residue-mod (a .ring .q) _ (c .before .before .before .before .before .before .before .before .pre .1)
-    ∙ to-mod (c-add (c-trans (of-eq (l .inv .1)) (of-rem (a .ring .q) (sumTo (l .s) (term (a .ring) (a .weights .now) (a .k) (a .l) (a .reading .now))))) c-refl)
-    ∙ ap (λ (n : ℕ). (sumTo n (term (a .ring) (a .weights .now) (a .k) (a .l) (a .reading .now)) + at (a .weights .now) ((a .k * a .ring .links + a .l) * (a .ring .parts + 1) + n) * a .key) % a .ring .q) e
+    ∙ to-mod (c-add (c-trans (of-eq (l .inv .1))
+    (of-rem (a .ring .q) (sumTo (l .s) (term (a .ring) (a .weights .now) (a .k) (a .l) (a .reading .now))))) c-refl)
+    ∙ ap (λ (n : ℕ). (sumTo n (term (a .ring) (a .weights .now) (a .k) (a .l) (a .reading .now)) + at (a .weights .now)
+    ((a .k * a .ring .links + a .l) * (a .ring .parts + 1) + n) * a .key) % a .ring .q) e
 
 pub combine-spec : {M : Type 1} → statement M
 combine-spec =

@@ -10,7 +10,7 @@ use borrow.Author.Needs.{needs}
 use Rattle.networks.proofs.uploads.relay_sum.Statement.{statement}
 use Rattle.networks.proofs.uploads.relay_sum.Tie as tie
 
-known : (c : tie.After-enum-told) → accepted ≡ firstOf (sumChecks (c .before .before .before .before .args .ring) (c .before .before .before .before .args .uploads .now))
+known : (c : tie.After-enum-told) → (let a = c .before .before .before .before .args in accepted ≡ firstOf (sumChecks (a .ring) (a .uploads .now)))
 known c = sym (ap verdictCode (c .enum-told .given .1)) ∙ c .before .before .check-sum .ensures
 
 check-sum-requires : tie.Need-check-sum-requires
@@ -23,7 +23,9 @@ enum-told : tie.Need-enum-told
 enum-told c = search needs
 
 add-all-requires : tie.Need-add-all-requires
-add-all-requires c κs = sum-known (c .before .before .before .before .args .ring) (c .before .before .before .before .args .uploads .now) (known c) .0
+add-all-requires c κs =
+    let a = c .before .before .before .before .args in
+    sum-known (a .ring) (a .uploads .now) (known c) .0
 
 returns : tie.Need-returns
 returns c =

@@ -20,7 +20,8 @@ returns : tie.Need-returns
 returns c =
     let a = c .before .before .before .before .before .args in
     first-answers (countChecks (a .ring))
-    (symbolChecks (a .ring .q) (tableFits (a .ring) (a .table .now) && weightsFit (a .ring) (a .weights .now)) (allBelow (a .ring .q) (a .table .now) && allBelow (a .ring .q) (a .weights .now)))
+    (symbolChecks (a .ring .q) (tableFits (a .ring) (a .table .now) && weightsFit (a .ring) (a .weights .now))
+    (allBelow (a .ring .q) (a .table .now) && allBelow (a .ring .q) (a .weights .now)))
     (c .before .before .check-counts .result) (c .before .before .check-counts .ensures) (c .before .is-accepted .ensures) (c .if1 .taken)
 
 lengths-fit-requires : tie.Need-lengths-fit-requires
@@ -40,8 +41,10 @@ returns-2 c =
     c .check-symbols .ensures
     ∙ ap₂ (λ (x y : Bool). firstOf (symbolChecks (a .ring .q) x y)) (c .before .before .lengths-fit .ensures) (c .before .both-below .ensures)
     ∙ second-answers (countChecks (a .ring))
-    (symbolChecks (a .ring .q) (tableFits (a .ring) (a .table .now) && weightsFit (a .ring) (a .weights .now)) (allBelow (a .ring .q) (a .table .now) && allBelow (a .ring .q) (a .weights .now)))
-    (c .before .before .before .before .before .check-counts .result) (c .before .before .before .before .before .check-counts .ensures) (c .before .before .before .before .is-accepted .ensures) tt (c .before .before .before .if1 .left)
+    (symbolChecks (a .ring .q) (tableFits (a .ring) (a .table .now) && weightsFit (a .ring) (a .weights .now))
+    (allBelow (a .ring .q) (a .table .now) && allBelow (a .ring .q) (a .weights .now)))
+    (c .before .before .before .before .before .check-counts .result) (c .before .before .before .before .before .check-counts .ensures)
+    (c .before .before .before .before .is-accepted .ensures) tt (c .before .before .before .if1 .left)
 
 pub check-network-spec : {M : Type 1} → statement M
 check-network-spec =
