@@ -25,7 +25,8 @@ use Rattle.cyclic.specs.NetworkLeaks.{leaks}
 use Rattle.cyclic.specs.Decoding.{onReading, onSource, relayRow, totalRow, kept, keptRows, decodable, coefficients}
 use Rattle.cyclic.proofs.DecodingLaws.{coefficients-only}
 use Rattle.networks.specs.declared.Ring.{Ring}
-use Rattle.networks.specs.Rings.{networkOf, vetChecks, Counted, Ready}
+use Rattle.networks.specs.Rings.{networkOf, vetChecks}
+use Rattle.networks.specs.Machine.{Counted, Ready}
 use Rattle.networks.specs.Grids.{uploadEntry, relayEntry, totalEntry, gridOf}
 use Rattle.networks.proofs.RingLaws.{sound}
 use Rattle.networks.proofs.LeakLaws.{grid-rank, ranks-decide}

@@ -47,7 +47,7 @@ module _ (C : Network) where
   unfoldable pub totalRow : ℕ → List ℕ
   totalRow s = tab (symbols C) (λ c. cond (eqb (c % C .parts) s) 1 0) ++ zeros (C .rate)
 
-  -- ---- by a reported of the relays that have arrived
+  -- ---- by who has reported: the relays that have arrived
 
   module _ (reported : ℕ) where
     -- an arrived relay that does not depend on lower arrived ones

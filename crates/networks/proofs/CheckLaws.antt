@@ -17,7 +17,8 @@ use Rattle.lists.proofs.Searches.{T-and, true→T}
 use Rattle.cyclic.specs.Network.{Network, linkOf, linked}
 use Rattle.cyclic.specs.NetworkLeaks.{leaks}
 use Rattle.networks.specs.Rings.{networkOf, countsFit, patternFits, tableFits, weightsFit, countChecks, symbolChecks, networkChecks, leakChecks}
-use Rattle.networks.specs.Rings.{uploadChecks, sumChecks, arrivedBelow, lentFits, lentBelow, arrivalChecks, Counted, Ready}
+use Rattle.networks.specs.Rings.{uploadChecks, sumChecks, arrivedBelow, lentFits, lentBelow, arrivalChecks}
+use Rattle.networks.specs.Machine.{Counted, Ready}
 use Rattle.networks.specs.declared.Ring.{Ring}
 
 pub counted-known : (R : Ring) → accepted ≡ firstOf (countChecks R) → Counted R

@@ -29,7 +29,8 @@ use Rattle.cyclic.specs.Network.{Network}
 use Rattle.cyclic.specs.Decoding.{relayRow, totalRow, kept, keptRows, decodable, decoded}
 use Rattle.cyclic.proofs.NetworkVerdicts.{Sound, relay-row-vector}
 use Rattle.cyclic.proofs.DecodingLaws.{kept-vectors, leaving-out, decoded-by, sums-solved, kept-arrived}
-use Rattle.networks.specs.Rings.{networkOf, arrivedBelow, Ready}
+use Rattle.networks.specs.Rings.{networkOf, arrivedBelow}
+use Rattle.networks.specs.Machine.{Ready}
 use Rattle.networks.specs.Grids.{relayEntry, totalEntry, entryOf, gridOf}
 use Rattle.matrices.specs.Sweeps.{sweptTable, sweptValues}
 use Rattle.networks.proofs.RingLaws.{sound, few-columns}

@@ -21,7 +21,8 @@ use Rattle.cyclic.specs.Network.{Network, symbols, heard}
 use Rattle.cyclic.specs.NetworkLeaks.{ObserverLeak, leaks}
 use Rattle.cyclic.specs.Decoding.{columns, relayRow, totalRow}
 use Rattle.cyclic.proofs.NetworkVerdicts.{uploadRow, uploadSource, relaySource, leaks-iff, relay-rank, server-rank}
-use Rattle.networks.specs.Rings.{networkOf, rowsSeen, totalsSeen, Ready}
+use Rattle.networks.specs.Rings.{networkOf}
+use Rattle.networks.specs.Machine.{rowsSeen, totalsSeen, Ready}
 use Rattle.networks.specs.Grids.{uploadEntry, relayEntry, totalEntry, entryOf, gridOf, gridRank}
 use Rattle.networks.proofs.RingLaws.{sound, few-columns, few-rows}
 use Rattle.networks.proofs.GridLaws.{entry-total, entry-relay}

@@ -7,7 +7,8 @@ use native.Mathlib.Omega.{arith}
 use lib.Arith.{digits-lt}
 use Rattle.residues.proofs.PrimeLaws.{prime-pos, below-at}
 use Rattle.cyclic.proofs.NetworkVerdicts.{Sound}
-use Rattle.networks.specs.Rings.{networkOf, rowsSeen, totalsSeen, Counted, Ready}
+use Rattle.networks.specs.Rings.{networkOf}
+use Rattle.networks.specs.Machine.{rowsSeen, totalsSeen, Counted, Ready}
 use Rattle.networks.specs.declared.Ring.{Ring}
 
 module _ (R : Ring) (c : Counted R) where

@@ -26,7 +26,8 @@ use Rattle.cyclic.specs.Decoding.{decodable, decoded}
 use Rattle.cyclic.proofs.DecodingLaws.{decoded-true, decoded-same}
 use Rattle.networks.specs.declared.Ring.{Ring}
 use Rattle.networks.specs.Rings.{networkOf, tableFits, weightsFit, countChecks, symbolChecks, networkChecks, uploadChecks, uploadOf, sumChecks}
-use Rattle.networks.specs.Rings.{summed, arrivedBelow, lentFits, lentBelow, arrivalChecks, decodeChecks, decodedAfter, Ready}
+use Rattle.networks.specs.Rings.{summed, arrivedBelow, lentFits, lentBelow, arrivalChecks, decodeChecks, decodedAfter}
+use Rattle.networks.specs.Machine.{Ready}
 use Rattle.networks.proofs.RingLaws.{sound}
 use Rattle.networks.proofs.CheckLaws.{ready-known, arrivals-known}
 

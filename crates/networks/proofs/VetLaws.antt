@@ -18,7 +18,8 @@ use Rattle.cyclic.specs.Network.{Network}
 use Rattle.cyclic.specs.NetworkLeaks.{ObserverLeak, leaks}
 use Rattle.cyclic.proofs.NetworkVerdicts.{leaks-iff}
 use Rattle.networks.specs.declared.Ring.{Ring}
-use Rattle.networks.specs.Rings.{networkOf, leakChecks, networkChecks, vetChecks, Ready}
+use Rattle.networks.specs.Rings.{networkOf, leakChecks, networkChecks, vetChecks}
+use Rattle.networks.specs.Machine.{Ready}
 use Rattle.networks.proofs.CheckLaws.{ready-known}
 
 abbrev named : ℕ → Code

@@ -9,7 +9,8 @@ use Rattle.matrices.specs.Rank.{rankOf}
 use Rattle.matrices.specs.Tables.{rowsOf}
 use Rattle.cyclic.specs.Network.{Network, symbols, heard, weight}
 use Rattle.cyclic.specs.Decoding.{columns, onReading, onSource}
-use Rattle.networks.specs.Rings.{networkOf, rowsSeen}
+use Rattle.networks.specs.Rings.{networkOf}
+use Rattle.networks.specs.Machine.{rowsSeen}
 use Rattle.networks.specs.declared.Ring.{Ring}
 
 module _ (C : Network) where

@@ -1,15 +1,14 @@
 -- The counts of a cyclic network, and the refusals of its entries. Document 02, Q-13: "Order: 1, 22, 4, 2, 3, then 7 for the vet, 8 for an unlinked upload
--- or a reported bit outside K, last 23."
-use Prim.Native.Nat.{ℕ, zero, suc, _+_, _-_, _*_, _/_, _%_, _^_, _≤_}
-use mathlib.Core.Path.{_≡_}
+-- or a roll bit outside K, last 23." The roll is `reported` here.
+use Prim.Native.Nat.{ℕ, zero, suc, _+_, _-_, _*_, _/_, _%_, _^_}
 use mathlib.Core.Bool.{Bool, not, _&&_, _||_}
 use mathlib.Core.List.{List, [], _∷_, _++_}
-use lib.Dec.{T, leb, ltb, eqb}
+use lib.Dec.{leb, ltb, eqb}
 use lib.ListN.{length}
 use Rattle.refusals.specs.declared.Code.{Code}
 use Rattle.refusals.specs.Codes.{code, firstOf, ifAccepted}
 use Rattle.lists.specs.Bits.{hasBit}
-use Rattle.residues.specs.Primes.{Prime, isPrime, allBelow}
+use Rattle.residues.specs.Primes.{isPrime, allBelow}
 use Rattle.lists.specs.Search.{allTo}
 use Rattle.lists.specs.Lists.{at, tab}
 use Rattle.lists.specs.Sums.{sumTo}
@@ -21,15 +20,6 @@ use Rattle.networks.specs.declared.Ring.{Ring}
 -- the network of a ring, a key table and coefficients
 abbrev pub networkOf : Ring → List ℕ → List ℕ → Network
 networkOf R K A = record { size = R .size; links = R .links; parts = R .parts; rate = R .rate; q = R .q; table = K; weights = A }
-
--- the rows of an observer: a relay's links, the server's totals and relays; and how many of them are totals
-abbrev pub rowsSeen : Ring → ℕ → ℕ
-rowsSeen R zero = R .parts + R .size
-rowsSeen R (suc j) = R .links
-
-abbrev pub totalsSeen : Ring → ℕ → ℕ
-totalsSeen R zero = R .parts
-totalsSeen R (suc j) = 0
 
 -- ---- what every entry asks first
 
@@ -116,23 +106,3 @@ decodeChecks R K A reported Y out = arrivalChecks R K A reported Y out ++ ((not 
 -- what stands in the buffer after the call
 abbrev pub decodedAfter : Ring → List ℕ → List ℕ → ℕ → List ℕ → List ℕ → List ℕ
 decodedAfter R K A reported Y out = ifAccepted (firstOf (decodeChecks R K A reported Y out)) (tab (R .parts) (decoded (networkOf R K A) reported Y)) out
-
--- ---- what is known once nothing before 7 is refused
-
-pub record Counted (R : Ring) : Type 0 where
-  pub size-low : 2 ≤ R .size
-  pub size-high : R .size ≤ 8
-  pub rate-low : 1 ≤ R .rate
-  pub rate-high : R .rate ≤ 16
-  pub links-low : 1 ≤ R .links
-  pub links-high : R .links ≤ R .size
-  pub parts-low : 1 ≤ R .parts
-  pub parts-high : R .parts ≤ 4
-
-pub record Ready (R : Ring) (K A : List ℕ) : Type 0 where
-  pub counted : Counted R
-  pub prime : Prime (R .q)
-  pub table : length K ≡ R .size * R .rate
-  pub weights : length A ≡ R .size * R .links * (R .parts + 1)
-  pub table-below : T (allBelow (R .q) K)
-  pub weights-below : T (allBelow (R .q) A)

@@ -3,7 +3,8 @@ use mathlib.Core.Path.{refl}
 use native.Mathlib.Omega.{arith}
 use lib.ListN.{length}
 use Rattle.cyclic.specs.Network.{Network}
-use Rattle.networks.specs.Rings.{networkOf, rowsSeen}
+use Rattle.networks.specs.Rings.{networkOf}
+use Rattle.networks.specs.Machine.{rowsSeen}
 use Rattle.networks.specs.Grids.{entryOf, gridOf}
 use Rattle.lists.proofs.Filling.{Filling, filling-none, filling-less, filling-next, filling-whole}
 use Rattle.networks.proofs.RingLaws.{few-symbols, few-columns, few-cells, few-rows, cell-row, cell-column}
