@@ -70,9 +70,6 @@ module _ (R : Ring) (K A : List ℕ) where
 -- ---- the vet
 
 module _ (R : Ring) (K A : List ℕ) where
-  abbrev C : Network
-  C = networkOf R K A
-
   -- the first observer that leaks: relays 1 to K in this order, and then the server, which is 0
   pub record FirstLeak (w : ℕ) : Type 0 where
     pub observer : w ≤ R .size

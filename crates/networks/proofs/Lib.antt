@@ -1,10 +1,10 @@
-pub mod Fronts
+mod Fronts
 pub mod RingLaws
-pub mod GridLaws
-pub mod GridRows
+mod GridLaws
+mod GridRows
 pub mod LeakLaws
 pub mod CheckLaws
 pub mod DecodeLaws
-pub mod ValueLaws
+mod ValueLaws
 pub mod RoundTrip
 pub mod VetLaws

@@ -6,6 +6,7 @@ use lib.Dec.{T}
 use lib.ListN.{length}
 use Rattle.residues.specs.Primes.{Prime, allBelow}
 use Rattle.networks.specs.declared.Ring.{Ring}
+use Rattle.networks.specs.Rings.{minSize, maxSize, maxRate, maxParts}
 
 -- the rows of an observer: a relay's links, the server's totals and relays; and how many of them are totals
 abbrev pub rowsSeen : Ring → ℕ → ℕ
@@ -19,14 +20,14 @@ totalsSeen R (suc j) = 0
 -- what is known once nothing before 7 is refused
 
 pub record Counted (R : Ring) : Type 0 where
-  pub size-low : 2 ≤ R .size
-  pub size-high : R .size ≤ 8
+  pub size-low : minSize ≤ R .size
+  pub size-high : R .size ≤ maxSize
   pub rate-low : 1 ≤ R .rate
-  pub rate-high : R .rate ≤ 16
+  pub rate-high : R .rate ≤ maxRate
   pub links-low : 1 ≤ R .links
   pub links-high : R .links ≤ R .size
   pub parts-low : 1 ≤ R .parts
-  pub parts-high : R .parts ≤ 4
+  pub parts-high : R .parts ≤ maxParts
 
 pub record Ready (R : Ring) (K A : List ℕ) : Type 0 where
   pub counted : Counted R

@@ -21,15 +21,26 @@ use Rattle.networks.specs.declared.Ring.{Ring}
 abbrev pub networkOf : Ring → List ℕ → List ℕ → Network
 networkOf R K A = record { size = R .size; links = R .links; parts = R .parts; rate = R .rate; q = R .q; table = K; weights = A }
 
--- ---- what every entry asks first
+-- ---- what every entry asks first: "K from 2 to 8", "n from 1 to 4", and R from 1 to 16 as in document 01
 
--- K from 2 to 8 and R from 1 to 16
+abbrev pub minSize : ℕ
+minSize = 2
+
+abbrev pub maxSize : ℕ
+maxSize = 8
+
+abbrev pub maxRate : ℕ
+maxRate = 16
+
+abbrev pub maxParts : ℕ
+maxParts = 4
+
 abbrev pub countsFit : Ring → Bool
-countsFit R = leb 2 (R .size) && leb (R .size) 8 && leb 1 (R .rate) && leb (R .rate) 16
+countsFit R = leb minSize (R .size) && leb (R .size) maxSize && leb 1 (R .rate) && leb (R .rate) maxRate
 
--- d from 1 to K and n from 1 to 4
+-- d from 1 to K
 abbrev pub patternFits : Ring → Bool
-patternFits R = leb 1 (R .links) && leb (R .links) (R .size) && leb 1 (R .parts) && leb (R .parts) 4
+patternFits R = leb 1 (R .links) && leb (R .links) (R .size) && leb 1 (R .parts) && leb (R .parts) maxParts
 
 abbrev pub tableFits : Ring → List ℕ → Bool
 tableFits R K = eqb (length K) (R .size * R .rate)

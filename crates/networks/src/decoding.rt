@@ -48,7 +48,7 @@ fn sweep(q: Symbol, rows: usize, cols: usize, i: usize, table: &mut [Symbol], va
     eliminate(q, rows, cols, i, table);
 }
 
-// By the row of each relay on the reported, in rising order.
+// By the row of each relay that has arrived, in rising order.
 fn sweep_all(
     q: Symbol,
     rows: usize,
