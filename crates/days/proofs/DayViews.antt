@@ -98,7 +98,8 @@ module _ (P : Pool) (run : Run) (see : ℕ → List ℕ → List ℕ → List �
         → runsShowing P run (λ N. from (seen W N)) test ≡ runsShowing P run (λ N. from (seen W′ N)) test
     unfolding keysShowing runsShowing seenOf
     seen-numbers from test =
-        run-counts (P .q) (keySymbols P run) (λ k N. see (run .length k) (W k) N) (λ k N. see (run .length k) (W′ k) N) (run .rounds) (λ k. size (run .length k))
+        run-counts (P .q) (keySymbols P run) (λ k N. see (run .length k) (W k) N) (λ k N. see (run .length k) (W′ k) N) (run .rounds)
+        (λ k. size (run .length k))
         (λ k l N. sized (run .length k) (W k) N (a .symbols k l))
         (λ k l N. sized (run .length k) (W′ k) N (a .symbols′ k l))
         same (λ vs. test (from vs))

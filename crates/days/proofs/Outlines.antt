@@ -36,17 +36,17 @@ pub record Alike (q : ℕ) (f f′ : Frame) : Type 0 where
 pub record Blind (q : ℕ) (M : Machine) : Type 1 where
   pub Same : M .State → M .State → Type 0
   pub first : Same (M .start) (M .start)
-  pub bared : (f f′ : Frame) → Alike q f f′ → M .bare (M .hears f) ≡ M .bare (M .hears f′)
+  pub headed : (f f′ : Frame) → Alike q f f′ → M .header (M .hears f) ≡ M .header (M .hears f′)
   pub called : (a b : M .State) → Same a b → (c : M .Call) → (M .reply a c .0 ≡ M .reply b c .0) × Same (M .next a c) (M .next b c)
   pub heard : (a b : M .State) → Same a b → (f f′ : Frame) → Alike q f f′
       → (M .reply a (M .hears f) .0 ≡ M .reply b (M .hears f′) .0) × Same (M .next a (M .hears f)) (M .next b (M .hears f′))
 
 module _ (q : ℕ) (M : Machine) (blind : Blind q M) (number : ℕ → ℕ) (B B′ : ℕ → ℕ → List ℕ)
     (alike : (k s : ℕ) → Alike q (frame s (number k) (B k s)) (frame s (number k) (B′ k s))) where
-  same-made : (schedule : List (Entry (M .Call))) → map (M .bare) (map (callOf M number B) schedule) ≡ map (M .bare) (map (callOf M number B′) schedule)
+  same-made : (schedule : List (Entry (M .Call))) → map (M .header) (map (callOf M number B) schedule) ≡ map (M .header) (map (callOf M number B′) schedule)
   same-made [] = refl
-  same-made (sends k s ∷ schedule) = ap₂ _∷_ (blind .bared _ _ (alike k s)) (same-made schedule)
-  same-made (calls c ∷ schedule) = ap (_∷_ (M .bare c)) (same-made schedule)
+  same-made (sends k s ∷ schedule) = ap₂ _∷_ (blind .headed _ _ (alike k s)) (same-made schedule)
+  same-made (calls c ∷ schedule) = ap (_∷_ (M .header c)) (same-made schedule)
 
   abbrev codes : List (Code × List ℕ) → List Code
   codes = map (λ x. x .0)

@@ -165,7 +165,7 @@ module _ (P : Pool) (pos : 0 < P .q) where
         record {
           Same = Same (P .q);
           first = inl (refl, refl);
-          bared = λ f f′ a i. event (heard (frame (a .sender i) (a .number i) []));
+          headed = λ f f′ a i. event (heard (frame (a .sender i) (a .number i) []));
           called = relay-called;
           heard = relay-heard;
         }

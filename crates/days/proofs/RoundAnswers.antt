@@ -146,7 +146,7 @@ module _ (P : Pool) (pos : 0 < P .q) where
       record {
         Same = Same (P .q);
         first = inl (refl, refl);
-        bared = λ f f′ a i. counts (frame (a .sender i) (a .number i) []);
+        headed = λ f f′ a i. counts (frame (a .sender i) (a .number i) []);
         called = server-called;
         heard = server-heard;
       }

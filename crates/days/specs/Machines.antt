@@ -15,7 +15,7 @@ pub record Machine : Type 1 where
   pub reply : State → Call → Code × List ℕ
   pub next : State → Call → State
   -- the call without a frame's symbols: who sends, and for which round, is left
-  pub bare : Call → Call
+  pub header : Call → Call
 
 -- "one list of openings, frames, resent frames, moves on and sums asked for, fixed without the readings" is a list of such entries, the schedule. A frame is
 -- named by its round k and its sender s: it carries what s sends in round k, so that the same entry once more is the frame "resent unchanged". Every other call
@@ -45,7 +45,7 @@ module _ (M : Machine) where
     pub answers : List Code
 
   abbrev pub outlineOf : Transcript → Outline
-  outlineOf t = record { made = map (M .bare) (t .made); answers = map (λ x. x .0) (t .told) }
+  outlineOf t = record { made = map (M .header) (t .made); answers = map (λ x. x .0) (t .told) }
 
   -- the numbers of the rounds, and what sender s sends in round k
   module _ (number : ℕ → ℕ) (block : ℕ → ℕ → List ℕ) where

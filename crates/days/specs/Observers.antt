@@ -27,16 +27,16 @@ pub data ServerCall : Type 0 where
 abbrev pub unread : Frame → Frame
 unread f = frame (f .sender) (f .number) []
 
-abbrev pub bareRelay : RelayCall → RelayCall
-bareRelay (opens number L) = opens number L
-bareRelay (event (heard f)) = event (heard (unread f))
-bareRelay (event moves) = event moves
-bareRelay (event (asks out)) = event (asks out)
+abbrev pub relayHeader : RelayCall → RelayCall
+relayHeader (opens number L) = opens number L
+relayHeader (event (heard f)) = event (heard (unread f))
+relayHeader (event moves) = event moves
+relayHeader (event (asks out)) = event (asks out)
 
-abbrev pub bareServer : ServerCall → ServerCall
-bareServer (begins number L) = begins number L
-bareServer (counts f) = counts (unread f)
-bareServer (gives out) = gives out
+abbrev pub serverHeader : ServerCall → ServerCall
+serverHeader (begins number L) = begins number L
+serverHeader (counts f) = counts (unread f)
+serverHeader (gives out) = gives out
 
 module _ (P : Pool) where
   -- relay u, from 1
@@ -58,7 +58,7 @@ module _ (P : Pool) where
         hears = λ f. event (heard f);
         reply = relayReply u;
         next = relayAfter u;
-        bare = bareRelay;
+        header = relayHeader;
       }
 
   -- the server
@@ -81,7 +81,7 @@ module _ (P : Pool) where
         hears = counts;
         reply = serverReply;
         next = serverAfter;
-        bare = bareServer;
+        header = serverHeader;
       }
 
   -- the machine of observer w

@@ -1,7 +1,7 @@
-// Counts runs of source keys literally: for tiny pools, two rounds and two days' readings that may not be told apart, every run of source keys is played through
-// the libraries' own calls under both days, and each transcript that occurs has to occur equally often. Writes how many pairs of days are alike, how many
-// transcripts they show, how many pairs are told apart by one, and in how many some answer depends on the readings or the keys. A case is made of its number
-// alone. The last kinds ask too much, so that there are days to be told apart.
+// Counts runs of source keys literally: for tiny pools, two rounds and two days' readings that may not be told apart, every run of source keys is played
+// through the libraries' own calls under both days, and each transcript that occurs has to occur equally often. Writes how many pairs of days are alike, how
+// many are told apart by a transcript, in how many some answer depends on the readings or the keys, in how many an upload is refused with 15, and how many
+// transcripts occurred. A case is made of its number alone. The last kinds ask too much, so that there are days to be told apart.
 mod keys_of;
 mod machines;
 mod numbers;

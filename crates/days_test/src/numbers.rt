@@ -12,8 +12,8 @@ pub const VARY: usize = 2;
 
 pub const REFUSED: usize = 3;
 
-// Calls in a day; places for the answers of two relays' days, and in a row of what is seen; and runs of source keys at most. A row has the answers first, then two
-// symbols for each, then the coalition's keys.
+// Calls in a day; places for the answers of two relays' days, and in a row of what is seen; and runs of source keys at most. A row has the answers first, then
+// two symbols for each, then the coalition's keys.
 pub const CALLS: usize = 20;
 
 pub const ANSWERS: usize = 40;

@@ -1,5 +1,5 @@
-// Two days' readings: user by user, round by round, each at its place. The second day's agree with the first's on the coalition's members and, where they are to
-// be balanced, on the total of each round and position.
+// Two days' readings: user by user, round by round, each at its place. The second day's agree with the first's on the coalition's members and, where they are
+// to be balanced, on the total of each round and position.
 use crate::numbers::is_member;
 use crate::numbers::place;
 use crate::shapes::Setup;
