@@ -58,7 +58,7 @@ const REFUSALS: u64 = 22;
 
 const GAP: u64 = 18;
 
-pub const CODES: u64 = 20000;
+pub const CODES: u64 = 22000;
 
 // Every q below 60 with every a to 60, then with every b to 60 too, then with every fifth m. So q and q + 1 are always among the numbers.
 fn small_case(k: u64, seed: u64) -> Case {
