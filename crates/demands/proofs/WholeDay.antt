@@ -1,5 +1,6 @@
 -- A whole day: the statements of specs/WholeDay.
 use Prim.Native.Nat.{ℕ}
+use mathlib.Core.Path.{refl}
 use mathlib.Core.List.{List}
 use Rattle.secrecy.specs.Model.{Pool}
 use Rattle.plans.specs.declared.Plan.{Plan}
@@ -32,10 +33,14 @@ module _ (P : Plan) (K : List ℕ) where
 
 module _ (P : Pool) where
   pub relay-is-code : RelayIsCode P
-  relay-is-code u R events = (Fixed.relay-replies P u R events, Fixed.relay-state P u R events)
+  relay-is-code u R = ((λ events. (Fixed.relay-replies P u R events, Fixed.relay-state P u R events)), (λ number L. (refl, refl)))
 
   pub server-is-code : ServerIsCode P
-  server-is-code R frames = (Fixed.server-replies P R frames, Fixed.server-state P R frames)
+  server-is-code R = (
+    (λ frames. (Fixed.server-replies P R frames, Fixed.server-state P R frames)),
+    (λ out. (refl, refl)),
+    (λ number L. (refl, refl)),
+  )
 
   pub stated-views : StatedViews P
   stated-views = Stated.day-tested P

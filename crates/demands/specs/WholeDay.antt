@@ -19,13 +19,13 @@ use Rattle.vetting.specs.Joint.{jointCode}
 use Rattle.rounds.specs.declared.RelayRound.{RelayRound}
 use Rattle.rounds.specs.declared.ServerRound.{ServerRound}
 use Rattle.rounds.specs.Ledger.{Frame}
-use Rattle.rounds.specs.Rounds.{serverRun, serverAnswers}
-use Rattle.rounds.specs.Relays.{Event, relayAnswers, relayRun}
+use Rattle.rounds.specs.Rounds.{oneOf, openCode, openRound, serverRound, serverGiveCode, serverSums, serverRun, serverAnswers}
+use Rattle.rounds.specs.Relays.{Event, relayAnswers, relayRun, relayOpened}
 use Rattle.signed.specs.Caps.{capFits}
 use Rattle.signed.specs.SignedLeaks.{SignedAgree, SignedAgrees}
 use Rattle.days.specs.Runs.{Run, Lengths, keySymbols, runSymbols, sourceKey, DaysAgree, SignedDaysAgree}
 use Rattle.days.specs.Machines.{Entry, replies, stateAfter, outlineOf}
-use Rattle.days.specs.Observers.{RelayCall, event, counts, relayMachine, serverMachine, machineOf}
+use Rattle.days.specs.Observers.{RelayCall, opens, event, begins, counts, gives, relayMachine, serverMachine, machineOf}
 use Rattle.days.specs.Days.{DayView, dayView, signedDayView, JointDay, jointDay, signedJointDay, runsShowing, TestFor}
 use Rattle.demands.specs.JointRelays.{Few}
 
@@ -99,18 +99,28 @@ module _ (P : Plan) (K : List ℕ) where
 
 module _ (P : Pool) where
   -- the machines are the code's: events of a relay's round, one after the other, are `relayAnswers` and `relayRun`, of which NextRound speaks, and frames into
-  -- the server's `serverAnswers` and `serverRun`, as in `CallsAreRuns` (Demands)
+  -- the server's `serverAnswers` and `serverRun`, as in `CallsAreRuns` (Demands); an opening and a giving are what `open` and `give` promise (rounds)
   abbrev pub RelayIsCode : Type 0
   RelayIsCode =
-      (u : ℕ) (R : RelayRound) (events : List Event)
+      (u : ℕ) (R : RelayRound)
+      → ((events : List Event)
       → (replies (relayMachine P u) R (map event events) ≡ relayAnswers R events)
-      × (stateAfter (relayMachine P u) R (map event events) ≡ relayRun R events)
+      × (stateAfter (relayMachine P u) R (map event events) ≡ relayRun R events))
+      × ((number L : ℕ)
+      → (relayMachine P u .reply R (opens number L) ≡ (openCode (P .clusters) (P .size) (P .q) L (oneOf (P .clusters) u), []))
+      × (relayMachine P u .next R (opens number L) ≡ relayOpened (P .clusters) (P .size) (P .q) L u number))
 
   abbrev pub ServerIsCode : Type 0
   ServerIsCode =
-      (R : ServerRound) (frames : List Frame)
+      (R : ServerRound)
+      → ((frames : List Frame)
       → (replies (serverMachine P) R (map counts frames) ≡ map (λ c. (c, [])) (serverAnswers R frames))
-      × (stateAfter (serverMachine P) R (map counts frames) ≡ serverRun R frames)
+      × (stateAfter (serverMachine P) R (map counts frames) ≡ serverRun R frames))
+      × ((out : List ℕ)
+      → (serverMachine P .reply R (gives out) ≡ (serverGiveCode R out, serverSums R out)) × (serverMachine P .next R (gives out) ≡ R))
+      × ((number L : ℕ)
+      → (serverMachine P .reply R (begins number L) ≡ (openCode (P .clusters) (P .size) (P .q) L true, []))
+      × (serverMachine P .next R (begins number L) ≡ serverRound (openRound (P .clusters) (P .size) (P .q) L true number)))
 
   -- "a stated day's sight": for each there is a test that passes it and no other
   abbrev pub StatedViews : Type 0
