@@ -5,11 +5,11 @@ use mathlib.Core.Bool.{Bool, true, false, cond, _&&_}
 use mathlib.Core.List.{List, []}
 use native.Mathlib.Omega.{arith}
 use lib.ListN.{getD, take, drop}
-use lib.Dec.{T, leb, ltb, eqb, eqb-refl, leb→le, ltb→lt}
+use lib.Dec.{T, leb, ltb, eqb, eqb-refl, leb→le, ltb→lt, lt→ltb}
 use lib.Arith.{digits-lt, digits-div}
 use Rattle.lists.specs.Lists.{at, tab}
 use Rattle.lists.specs.Sums.{sumTo, howMany}
-use Rattle.lists.proofs.Searches.{T-and, true→T}
+use Rattle.lists.proofs.Searches.{T-and, and-T, T→true, true→T}
 use Rattle.lists.proofs.ListLaws.{at-tab, get-tab, tab-cong}
 use Rattle.lists.proofs.Sums.{sum-cong}
 use Rattle.matrices.specs.Linear.{Vector}
@@ -47,6 +47,15 @@ sums-sent P L W N u =
     ap (λ (z : ℕ). z % P .q)
     (sum-cong (P .size) (λ v. at (tab L (upload P L W N (u * P .size + v))) p) (λ v. upload P L W N (u * P .size + v) p)
     (λ v h. at-tab L (upload P L W N (u * P .size + v)) p l)))
+
+-- so relay s, from 1, sends the server its sum of the round
+pub sum-sent-in : (P : Pool) (run : Run) (W : ℕ → List ℕ) (N : List ℕ) (k s : ℕ) → k < run .rounds → T (oneOf (P .clusters) s)
+    → sentIn P run (uploadsOf P run W N) 0 k s ≡ tab (run .length k) (relaySum P (run .length k) (W k) (sourceKey P run N k) (s - 1))
+unfolding sentIn
+sum-sent-in P run W N k s l o =
+    ap (λ (t : Bool). cond t (sent P (run .length k) (uploadsOf P run W N k) 0 s) [])
+    (T→true (ltb k (run .rounds) && oneOf (P .clusters) s) (and-T (ltb k (run .rounds)) (oneOf (P .clusters) s) (lt→ltb k (run .rounds) l) o))
+    ∙ sums-sent P (run .length k) (W k) (sourceKey P run N k) (s - 1)
 
 module _ (P : Pool) (run : Run) (see : ℕ → List ℕ → List ℕ → List ℕ) where
   abbrev seen : (ℕ → List ℕ) → List ℕ → List (List ℕ)

@@ -5,11 +5,12 @@ use mathlib.Core.List.{List}
 use Rattle.secrecy.specs.Model.{Pool}
 use Rattle.plans.specs.declared.Plan.{Plan}
 use Rattle.vetting.specs.Pools.{poolOf}
+use Rattle.days.proofs.DayViews as DayViews
 use Rattle.days.proofs.Days as Days
 use Rattle.days.proofs.Fixed as Fixed
 use Rattle.days.proofs.Stated as Stated
 use Rattle.demands.specs.WholeDay.{EqualDays, SignedEqualDays, JointEqualDays, SignedJointEqualDays, OutlineFixed, SignedOutlineFixed}
-use Rattle.demands.specs.WholeDay.{RelayIsCode, ServerIsCode, StatedViews, StatedJointViews, RunsAreLists}
+use Rattle.demands.specs.WholeDay.{RelayIsCode, ServerIsCode, SumsAreSent, StatedViews, StatedJointViews, RunsAreLists}
 
 module _ (P : Plan) (K : List ℕ) where
   pub equal-days : EqualDays P K
@@ -41,6 +42,9 @@ module _ (P : Pool) where
     (λ out. (refl, refl)),
     (λ number L. (refl, refl)),
   )
+
+  pub sums-are-sent : SumsAreSent P
+  sums-are-sent = DayViews.sum-sent-in P
 
   pub stated-views : StatedViews P
   stated-views = Stated.day-tested P

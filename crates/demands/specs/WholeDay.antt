@@ -1,14 +1,15 @@
 -- A whole day (document 02, Q-12). What is sent, scheduled and seen is in `days`; an observer is 0 for the server and u for relay u. The relays and the server
 -- of a day are the code's: Observers of days names, call by call, the definitions that the promises of `open`, `count`, `advance` and `give` name (rounds).
-use Prim.Native.Nat.{ℕ, _<_}
+use Prim.Native.Nat.{ℕ, _-_, _<_}
 use mathlib.Core.Path.{_≡_}
 use mathlib.Core.Bool.{Bool, true}
 use mathlib.Core.List.{List, [], map}
+use lib.Dec.{T}
 use lib.IntN.{ℤ}
 use Rattle.refusals.specs.Codes.{accepted}
-use Rattle.lists.specs.Lists.{joinTo}
+use Rattle.lists.specs.Lists.{tab, joinTo}
 use Rattle.matrices.specs.Linear.{Vector}
-use Rattle.secrecy.specs.Model.{Pool, known, view}
+use Rattle.secrecy.specs.Model.{Pool, relaySum, known, view}
 use Rattle.secrecy.specs.Leaks.{Agree, Agrees}
 use Rattle.plans.specs.declared.Plan.{Plan}
 use Rattle.vetting.specs.declared.Joint.the-variants.{Relays}
@@ -23,7 +24,7 @@ use Rattle.rounds.specs.Rounds.{oneOf, openCode, openRound, serverRound, server
 use Rattle.rounds.specs.Relays.{Event, relayAnswers, relayRun, relayOpened}
 use Rattle.signed.specs.Caps.{capFits}
 use Rattle.signed.specs.SignedLeaks.{SignedAgree, SignedAgrees}
-use Rattle.days.specs.Runs.{Run, Lengths, keySymbols, runSymbols, sourceKey, DaysAgree, SignedDaysAgree}
+use Rattle.days.specs.Runs.{Run, Lengths, keySymbols, runSymbols, sourceKey, sentIn, uploadsOf, DaysAgree, SignedDaysAgree}
 use Rattle.days.specs.Machines.{Entry, replies, stateAfter, outlineOf}
 use Rattle.days.specs.Observers.{RelayCall, opens, event, begins, counts, gives, relayMachine, serverMachine, machineOf}
 use Rattle.days.specs.Days.{DayView, dayView, signedDayView, JointDay, jointDay, signedJointDay, runsShowing, TestFor}
@@ -121,6 +122,12 @@ module _ (P : Pool) where
       × ((number L : ℕ)
       → (serverMachine P .reply R (begins number L) ≡ (openCode (P .clusters) (P .size) (P .q) L true, []))
       × (serverMachine P .next R (begins number L) ≡ serverRound (openRound (P .clusters) (P .size) (P .q) L true number)))
+
+  -- "(for the desk, gateway sum)": what a relay, from 1, sends to the server in a round is (26), its sum of the round's uploads
+  abbrev pub SumsAreSent : Type 0
+  SumsAreSent =
+      (run : Run) (W : ℕ → List ℕ) (N : List ℕ) (k s : ℕ) → k < run .rounds → T (oneOf (P .clusters) s)
+      → sentIn P run (uploadsOf P run W N) 0 k s ≡ tab (run .length k) (relaySum P (run .length k) (W k) (sourceKey P run N k) (s - 1))
 
   -- "a stated day's sight": for each there is a test that passes it and no other
   abbrev pub StatedViews : Type 0
