@@ -83,7 +83,8 @@ module _ (P : Plan) (K : List ℕ) where
       ≡ runsShowing pool run (signedJointDay P K run a b first second g R′) test
 
   -- "The sight now includes the order of frames, sender and round numbers, resent frames and every refusal."; "None of these may depend on a reading inside its
-  -- cap.": they are the same under all readings, inside a cap or not, and under all runs of source keys, of every plan with a q other than 0
+  -- cap.": they are the same under all readings inside any cap, and under all runs of source keys, of every plan with a q other than 0. The statement asks for
+  -- no cap: outside of it `signed_upload` writes nothing, and a frame carries what it would write
   abbrev pub OutlineFixed : Type 0
   OutlineFixed =
       0 < P .q → (g w : ℕ) (run : Run) (schedule : List (Entry (machineOf pool w .Call))) (W W′ : ℕ → List ℕ) (N N′ : List ℕ)
