@@ -85,6 +85,16 @@ module _ (C : Network) where
         (sym (ap (λ (z : ℕ). (k + (C .size - z)) % C .size) (sym (x .2)) ∙ turned k (x .0) h c)) (x .1))),
   )
 
+  -- link l of user k leads to relay j just where it is the link that leads there, and just where k is the user that relay j hears on it
+  pub links-meet : (k j l : ℕ) → k < C .size → j < C .size → l < C .size
+      → ((relayOf C k l ≡ j) ↔ (linkOf C k j ≡ l)) × ((relayOf C k l ≡ j) ↔ (heard C j l ≡ k))
+  unfolding relayOf linkOf
+  links-meet k j l h b c =
+      let leads : linkOf C k j ≡ l → relayOf C k l ≡ j = λ e. ap (relayOf C k) (sym e) ∙ turned k j h b in (
+        ((λ e. ap (linkOf C k) (sym e) ∙ turned k l h c), leads),
+        ((λ e. ap (λ (z : ℕ). heard C z l) (sym e) ∙ heard-relay k l h c), (λ e. leads (ap (λ (z : ℕ). linkOf C z j) (sym e) ∙ link-heard j l b c))),
+      )
+
   -- the first link leads to the user's own relay, each other to the relay before that of the link before it
   pub first-link : (k : ℕ) → k < C .size → relayOf C k 0 ≡ k
   unfolding relayOf

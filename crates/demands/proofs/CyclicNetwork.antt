@@ -14,7 +14,7 @@ use Rattle.matrices.specs.Rank.{inSpan}
 use Rattle.matrices.proofs.Spans.{in-span-iff}
 use Rattle.cyclic.specs.Network.{linkOf, Network, symbols, relayOf}
 use Rattle.cyclic.specs.Decoding.{columns, totalRow, keptRows, decodable}
-use Rattle.cyclic.proofs.NetworkForms.{linked-iff, first-link, next-link}
+use Rattle.cyclic.proofs.NetworkForms.{linked-iff, links-meet, first-link, next-link}
 use Rattle.cyclic.proofs.NetworkVerdicts.{equal-numbers}
 use Rattle.cyclic.proofs.DecodingLaws.{combination-found, combination-in, combination-only, kept-vectors, leaving-out, undecodable-twins, more-arrived}
 use Rattle.networks.specs.declared.Ring.{Ring}
@@ -24,7 +24,7 @@ use Rattle.networks.proofs.CheckLaws.{ready-known, arrivals-known}
 use Rattle.networks.proofs.VetLaws.{no-six, accepted-passes, accepted-quiet, refused-iff, named-first, first-named}
 use Rattle.networks.proofs.RoundTrip.{upload-taken, upload-meant, sum-taken, sum-meant, checks-same, after-same, accepted-decodable}
 use Rattle.networks.proofs.RoundTrip.{decodable-accepted, undecodable-refused, refused-undecodable, totals-written, arrivals-taken}
-use Rattle.demands.specs.CyclicNetwork.{relayBefore, LinksGoRound, LinkedIff, InOrder, NoSix, WrongPattern, NetworkHides, RefusedIffLeaks}
+use Rattle.demands.specs.CyclicNetwork.{relayBefore, LinksGoRound, LinkedIff, LinksMeet, InOrder, NoSix, WrongPattern, NetworkHides, RefusedIffLeaks}
 use Rattle.demands.specs.CyclicNetwork.{NamesFirstObserver, UploadsAre, SumsAre, Combination, LooksOnlyAtArrived, GivesTotals, WritesTotals}
 use Rattle.demands.specs.CyclicNetwork.{OneCombination, LeavingOut, RefusedIffNone, NobodyCould, MoreArrive}
 
@@ -38,6 +38,9 @@ module _ (C : Network) where
 
   pub linked-where : LinkedIff C
   linked-where = linked-iff C
+
+  pub links-are-met : LinksMeet C
+  links-are-met = links-meet C
 
 module _ (R : Ring) (K A : List ℕ) where
   pub in-order : InOrder R K A

@@ -14,7 +14,7 @@ use Rattle.lists.specs.Bits.{hasBit}
 use Rattle.lists.specs.Lists.{at, tab, picked}
 use Rattle.matrices.specs.Linear.{Vector, comb}
 use Rattle.secrecy.specs.Leaks.{keysShowing}
-use Rattle.cyclic.specs.Network.{Network, symbols, relayOf, linkOf, linked, reading, key, upload, relaySum, total, relayView, view}
+use Rattle.cyclic.specs.Network.{Network, symbols, relayOf, heard, linkOf, linked, reading, key, upload, relaySum, total, relayView, view}
 use Rattle.cyclic.specs.NetworkLeaks.{Agrees, ObserverLeak}
 use Rattle.cyclic.specs.Decoding.{columns, relayRow, totalRow, keptRows}
 use Rattle.networks.specs.declared.Ring.{Ring}
@@ -39,6 +39,13 @@ module _ (C : Network) where
   abbrev pub LinkedIff : Type 0
   LinkedIff =
       C .links ≤ C .size → (k j : ℕ) → k < C .size → j < C .size → T (linked C k j) ↔ ((l : ℕ) × (l < C .links) × (relayOf C k l ≡ j))
+
+  -- "for its gateways in that order": the coefficients of an upload from k to j are those of the link that `linkOf` says, which is the one that leads there; and
+  -- on link l relay j hears the user whose link l leads to it
+  abbrev pub LinksMeet : Type 0
+  LinksMeet =
+      (k j l : ℕ) → k < C .size → j < C .size → l < C .size
+      → ((relayOf C k l ≡ j) ↔ (linkOf C k j ≡ l)) × ((relayOf C k l ≡ j) ↔ (heard C j l ≡ k))
 
 -- ---- orders
 
