@@ -22,6 +22,7 @@ use Rattle.checkpoints.specs.Checkpoints.{restoreCode, restored}
 use Rattle.checkpoints.specs.Stores.{Store, usedBytes, storeAfter, stored, NoneRefused, RowsOf64}
 use Rattle.checkpoints.proofs.StateLaws.{passed, savable, state-first}
 use Rattle.checkpoints.proofs.Ways.{trailer-good}
+use Rattle.checkpoints.proofs.Refused.{no-room}
 use Rattle.checkpoints.proofs.RestoreChecks.{state-decides}
 use Rattle.checkpoints.proofs.SaveLaws.{SavedAt, saved-at, save-length}
 
@@ -30,66 +31,72 @@ pub record Sound (R : RelayRound) : Type 0 where
   pub rows : RowsOf64 R
   pub state : accepted ≡ firstOf (relayChecks R)
 
--- the saves of these rounds, the last one first
-abbrev pub savesOf : List RelayRound → List ℕ
-savesOf [] = []
-savesOf (R ∷ earlier) = savesOf earlier ++ saveOf R
+-- the saves of these rounds, the last one first, behind the bytes in front
+abbrev pub savesOf : List ℕ → List RelayRound → List ℕ
+savesOf base [] = base
+savesOf base (R ∷ earlier) = savesOf base earlier ++ saveOf R
 
-length-saves : (R : RelayRound) (earlier : List RelayRound) → Sound R → length (savesOf (R ∷ earlier)) ≡ length (savesOf earlier) + saveSize (R .round .length)
-length-saves R earlier s =
-    length-append (savesOf earlier) (saveOf R)
-    ∙ ap (λ (n : ℕ). length (savesOf earlier) + n) (save-length [] R [] (s .rows .0) (s .rows .1) (passed R (s .state)))
+length-saves : (base : List ℕ) (R : RelayRound) (earlier : List RelayRound) → Sound R
+    → length (savesOf base (R ∷ earlier)) ≡ length (savesOf base earlier) + saveSize (R .round .length)
+length-saves base R earlier s =
+    length-append (savesOf base earlier) (saveOf R)
+    ∙ ap (λ (n : ℕ). length (savesOf base earlier) + n) (save-length [] R [] (s .rows .0) (s .rows .1) (passed R (s .state)))
 
 -- the last of them ends with its trailer, whatever stands behind
-last-save : (R : RelayRound) (earlier : List RelayRound) (after B : List ℕ) → Sound R → B ≡ savesOf (R ∷ earlier) ++ after → SavedAt B (length (savesOf (R ∷ earlier))) R
-last-save R earlier after B s e =
-    let there = saved-at (savesOf earlier) R after (s .rows .0) (s .rows .1) (passed R (s .state)) in
-    subst (λ (l : List ℕ). SavedAt l (length (savesOf (R ∷ earlier))) R) (sym (e ∙ append-assoc (savesOf earlier) (saveOf R) after))
-    (subst (λ (n : ℕ). SavedAt (savesOf earlier ++ (saveOf R ++ after)) n R) (sym (length-saves R earlier s)) there)
+last-save : (base : List ℕ) (R : RelayRound) (earlier : List RelayRound) (after B : List ℕ) → Sound R → B ≡ savesOf base (R ∷ earlier) ++ after
+    → SavedAt B (length (savesOf base (R ∷ earlier))) R
+last-save base R earlier after B s e =
+    let there = saved-at (savesOf base earlier) R after (s .rows .0) (s .rows .1) (passed R (s .state)) in
+    subst (λ (l : List ℕ). SavedAt l (length (savesOf base (R ∷ earlier))) R) (sym (e ∙ append-assoc (savesOf base earlier) (saveOf R) after))
+    (subst (λ (n : ℕ). SavedAt (savesOf base earlier ++ (saveOf R ++ after)) n R) (sym (length-saves base R earlier s)) there)
 
 -- one step back from it leads to the end of the one before
-step-back : (R : RelayRound) (earlier : List RelayRound) (after B : List ℕ) → Sound R → B ≡ savesOf (R ∷ earlier) ++ after
-    → length (savesOf (R ∷ earlier)) - distanceAt B (length (savesOf (R ∷ earlier))) ≡ length (savesOf earlier)
-step-back R earlier after B s e = omega (arith, length-saves R earlier s, last-save R earlier after B s e .size)
+step-back : (base : List ℕ) (R : RelayRound) (earlier : List RelayRound) (after B : List ℕ) → Sound R → B ≡ savesOf base (R ∷ earlier) ++ after
+    → length (savesOf base (R ∷ earlier)) - distanceAt B (length (savesOf base (R ∷ earlier))) ≡ length (savesOf base earlier)
+step-back base R earlier after B s e = omega (arith, length-saves base R earlier s, last-save base R earlier after B s e .size)
 
 -- what stands behind the save before
-behind : (R : RelayRound) (earlier : List RelayRound) (after B : List ℕ) → B ≡ savesOf (R ∷ earlier) ++ after → B ≡ savesOf earlier ++ (saveOf R ++ after)
-behind R earlier after B e = e ∙ append-assoc (savesOf earlier) (saveOf R) after
+behind : (base : List ℕ) (R : RelayRound) (earlier : List RelayRound) (after B : List ℕ) → B ≡ savesOf base (R ∷ earlier) ++ after
+    → B ≡ savesOf base earlier ++ (saveOf R ++ after)
+behind base R earlier after B e = e ∙ append-assoc (savesOf base earlier) (saveOf R) after
 
 -- as many steps back as there are later saves
-way-to : (later : List RelayRound) (R : RelayRound) (earlier : List RelayRound) (after B : List ℕ) → All Sound (later ++ (R ∷ earlier))
-    → B ≡ savesOf (later ++ (R ∷ earlier)) ++ after
-    → (badWay B (length later) (length (savesOf (later ++ (R ∷ earlier)))) ≡ false)
-    × (endBack B (length later) (length (savesOf (later ++ (R ∷ earlier)))) ≡ length (savesOf (R ∷ earlier)))
+way-to : (base : List ℕ) (later : List RelayRound) (R : RelayRound) (earlier : List RelayRound) (after B : List ℕ) → All Sound (later ++ (R ∷ earlier))
+    → B ≡ savesOf base (later ++ (R ∷ earlier)) ++ after
+    → (badWay B (length later) (length (savesOf base (later ++ (R ∷ earlier)))) ≡ false)
+    × (endBack B (length later) (length (savesOf base (later ++ (R ∷ earlier)))) ≡ length (savesOf base (R ∷ earlier)))
 unfolding badWay endBack
-way-to [] R earlier after B all e = (trailer-good B (length (savesOf (R ∷ earlier))) (last-save R earlier after B (all .0) e .trailer), refl)
-way-to (X ∷ later) R earlier after B all e =
+way-to base [] R earlier after B all e = (trailer-good B (length (savesOf base (R ∷ earlier))) (last-save base R earlier after B (all .0) e .trailer), refl)
+way-to base (X ∷ later) R earlier after B all e =
     let rest : List RelayRound = later ++ (R ∷ earlier) in
-    let here : ℕ = length (savesOf (X ∷ rest)) in
-    let good = trailer-good B here (last-save X rest after B (all .0) e .trailer) in
-    let back = step-back X rest after B (all .0) e in
-    let (way, end) = way-to later R earlier (saveOf X ++ after) B (all .1) (behind X rest after B e) in (
+    let here : ℕ = length (savesOf base (X ∷ rest)) in
+    let good = trailer-good B here (last-save base X rest after B (all .0) e .trailer) in
+    let back = step-back base X rest after B (all .0) e in
+    let (way, end) = way-to base later R earlier (saveOf X ++ after) B (all .1) (behind base X rest after B e) in (
       ap (λ (t : Bool). t || badWay B (length later) (here - distanceAt B here)) good ∙ ap (badWay B (length later)) back ∙ way,
       ap (endBack B (length later)) back ∙ end,
     )
 
--- and as many as there are saves, or more
-way-beyond : (Rs : List RelayRound) (after B : List ℕ) (n : ℕ) → All Sound Rs → B ≡ savesOf Rs ++ after → length Rs ≤ n → badWay B n (length (savesOf Rs)) ≡ true
+-- and as many as there are saves, or more, with nothing in front
+way-beyond : (base : List ℕ) → length base ≡ 0 → (Rs : List RelayRound) (after B : List ℕ) (n : ℕ) → All Sound Rs → B ≡ savesOf base Rs ++ after
+    → length Rs ≤ n → badWay B n (length (savesOf base Rs)) ≡ true
 unfolding badWay
-way-beyond [] after B zero all e h = refl
-way-beyond [] after B (suc n) all e h = refl
-way-beyond (X ∷ rest) after B zero all e h = absurd (omega arith)
-way-beyond (X ∷ rest) after B (suc n) all e h =
-    let here : ℕ = length (savesOf (X ∷ rest)) in
-    let good = trailer-good B here (last-save X rest after B (all .0) e .trailer) in
+way-beyond base none [] after B zero all e h = no-room B (length base) (omega (arith, none))
+way-beyond base none [] after B (suc n) all e h =
+    ap (λ (t : Bool). t || badWay B n (length base - distanceAt B (length base))) (no-room B (length base) (omega (arith, none)))
+way-beyond base none (X ∷ rest) after B zero all e h = absurd (omega arith)
+way-beyond base none (X ∷ rest) after B (suc n) all e h =
+    let here : ℕ = length (savesOf base (X ∷ rest)) in
+    let good = trailer-good B here (last-save base X rest after B (all .0) e .trailer) in
     ap (λ (t : Bool). t || badWay B n (here - distanceAt B here)) good
-    ∙ ap (badWay B n) (step-back X rest after B (all .0) e)
-    ∙ way-beyond rest (saveOf X ++ after) B n (all .1) (behind X rest after B e) (omega arith)
+    ∙ ap (badWay B n) (step-back base X rest after B (all .0) e)
+    ∙ way-beyond base none rest (saveOf X ++ after) B n (all .1) (behind base X rest after B e) (omega arith)
 
 -- ---- restoring
 
 -- a save that stands where the steps lead is restored
-pub restore-saved : (B : List ℕ) (steps : ℕ) (R : RelayRound) → badWay B steps (length B) ≡ false → SavedAt B (lastByte B steps) R → accepted ≡ firstOf (relayChecks R)
+pub restore-saved : (B : List ℕ) (steps : ℕ) (R : RelayRound) → badWay B steps (length B) ≡ false → SavedAt B (lastByte B steps) R
+    → accepted ≡ firstOf (relayChecks R)
     → (accepted ≡ restoreCode B steps) × (restored B steps ≡ R)
 restore-saved B steps R way at ok =
     let p = passed R ok in
@@ -103,26 +110,26 @@ restore-saved B steps R way at ok =
     (at .size ∙ ap (λ (X : RelayRound). saveSize (X .round .length)) (sym same)) in
     (e, accepted-takes (restoreCode B steps) (roundRead B steps) _ e ∙ same)
 
-pub chain-found : (later : List RelayRound) (R : RelayRound) (earlier : List RelayRound) → All Sound (later ++ (R ∷ earlier))
-    → (let B : List ℕ = savesOf (later ++ (R ∷ earlier)) in (accepted ≡ restoreCode B (length later)) × (restored B (length later) ≡ R))
-chain-found later R earlier all =
-    let B : List ℕ = savesOf (later ++ (R ∷ earlier)) in
+pub chain-found : (base : List ℕ) (later : List RelayRound) (R : RelayRound) (earlier : List RelayRound) → All Sound (later ++ (R ∷ earlier))
+    → (let B : List ℕ = savesOf base (later ++ (R ∷ earlier)) in (accepted ≡ restoreCode B (length later)) × (restored B (length later) ≡ R))
+chain-found base later R earlier all =
+    let B : List ℕ = savesOf base (later ++ (R ∷ earlier)) in
     let whole : B ≡ B ++ [] = sym (append-nil B) in
-    let (way, end) = way-to later R earlier [] B all whole in
+    let (way, end) = way-to base later R earlier [] B all whole in
     let one : Sound R = all-right Sound later (R ∷ earlier) all .0 in
     let (before, split) = front later (R ∷ earlier) in
     restore-saved B (length later) R way
-    (subst (λ (n : ℕ). SavedAt B n R) (sym end) (last-save R earlier before B one split)) (one .state)
+    (subst (λ (n : ℕ). SavedAt B n R) (sym end) (last-save base R earlier before B one split)) (one .state)
   where
     -- what the later saves are
-    front : (later rest : List RelayRound) → (after : List ℕ) × (savesOf (later ++ rest) ≡ savesOf rest ++ after)
-    front [] rest = ([], sym (append-nil (savesOf rest)))
+    front : (later rest : List RelayRound) → (after : List ℕ) × (savesOf base (later ++ rest) ≡ savesOf base rest ++ after)
+    front [] rest = ([], sym (append-nil (savesOf base rest)))
     front (X ∷ later) rest =
         let (after, e) = front later rest in
-        (after ++ saveOf X, ap (λ (l : List ℕ). l ++ saveOf X) e ∙ append-assoc (savesOf rest) after (saveOf X))
+        (after ++ saveOf X, ap (λ (l : List ℕ). l ++ saveOf X) e ∙ append-assoc (savesOf base rest) after (saveOf X))
 
-pub chain-beyond : (Rs : List RelayRound) (n : ℕ) → All Sound Rs → length Rs ≤ n → restoreCode (savesOf Rs) n ≡ code 5
-chain-beyond Rs n all h = rw (way-beyond Rs [] (savesOf Rs) n all (sym (append-nil (savesOf Rs))) h)
+pub chain-beyond : (base : List ℕ) → length base ≡ 0 → (Rs : List RelayRound) (n : ℕ) → All Sound Rs → length Rs ≤ n → restoreCode (savesOf base Rs) n ≡ code 5
+chain-beyond base none Rs n all h = rw (way-beyond base none Rs [] (savesOf base Rs) n all (sym (append-nil (savesOf base Rs))) h)
 
 -- ---- calls of `save`
 
@@ -140,11 +147,11 @@ used-after R S e rows =
     (accepted-takes (saveCode R (S .bytes) (S .used)) (before ++ saveOf R ++ rest) (S .bytes) e)
     ∙ take-at (before ++ saveOf R) rest (S .used + D) long
 
-pub stored-bytes : (S : Store) (Rs : List RelayRound) → S .used ≡ 0 → NoneRefused S Rs → All RowsOf64 Rs → usedBytes (stored S Rs) ≡ savesOf Rs
+pub stored-bytes : (S : Store) (Rs : List RelayRound) → NoneRefused S Rs → All RowsOf64 Rs → usedBytes (stored S Rs) ≡ savesOf (usedBytes S) Rs
 unfolding stored
-stored-bytes S [] none ok rows = ap (λ (n : ℕ). take n (S .bytes)) none
-stored-bytes S (R ∷ earlier) none ok rows =
-    used-after R (stored S earlier) (ok .0) (rows .0) ∙ ap (λ (l : List ℕ). l ++ saveOf R) (stored-bytes S earlier none (ok .1) (rows .1))
+stored-bytes S [] ok rows = refl
+stored-bytes S (R ∷ earlier) ok rows =
+    used-after R (stored S earlier) (ok .0) (rows .0) ∙ ap (λ (l : List ℕ). l ++ saveOf R) (stored-bytes S earlier (ok .1) (rows .1))
 
 pub all-sound : (S : Store) (Rs : List RelayRound) → NoneRefused S Rs → All RowsOf64 Rs → All Sound Rs
 all-sound S [] ok rows = tt
@@ -153,19 +160,21 @@ all-sound S (R ∷ earlier) ok rows =
 
 -- ---- what was saved is found again
 
-module _ (S : Store) (none : S .used ≡ 0) (Rs : List RelayRound) (rows : All RowsOf64 Rs) (ok : NoneRefused S Rs) where
-  there : usedBytes (stored S Rs) ≡ savesOf Rs
-  there = stored-bytes S Rs none ok rows
+module _ (S : Store) (Rs : List RelayRound) (rows : All RowsOf64 Rs) (ok : NoneRefused S Rs) where
+  there : usedBytes (stored S Rs) ≡ savesOf (usedBytes S) Rs
+  there = stored-bytes S Rs ok rows
 
   pub chain-restored : (later : List RelayRound) (R : RelayRound) (earlier : List RelayRound) → Rs ≡ later ++ (R ∷ earlier)
       → (restoreCode (usedBytes (stored S Rs)) (length later) ≡ accepted) × (restored (usedBytes (stored S Rs)) (length later) ≡ R)
   chain-restored later R earlier e =
-      let same : usedBytes (stored S Rs) ≡ savesOf (later ++ (R ∷ earlier)) = there ∙ ap savesOf e in
-      let (code, round) = chain-found later R earlier (subst (All Sound) e (all-sound S Rs ok rows)) in
+      let same : usedBytes (stored S Rs) ≡ savesOf (usedBytes S) (later ++ (R ∷ earlier)) = there ∙ ap (savesOf (usedBytes S)) e in
+      let (code, round) = chain-found (usedBytes S) later R earlier (subst (All Sound) e (all-sound S Rs ok rows)) in
       (ap (λ (l : List ℕ). restoreCode l (length later)) same ∙ sym code, ap (λ (l : List ℕ). restored l (length later)) same ∙ round)
 
-  pub chain-refused : (steps : ℕ) → length Rs ≤ steps → restoreCode (usedBytes (stored S Rs)) steps ≡ code 5
-  chain-refused steps h = ap (λ (l : List ℕ). restoreCode l steps) there ∙ chain-beyond Rs steps (all-sound S Rs ok rows) h
+  pub chain-refused : S .used ≡ 0 → (steps : ℕ) → length Rs ≤ steps → restoreCode (usedBytes (stored S Rs)) steps ≡ code 5
+  chain-refused none steps h =
+      ap (λ (l : List ℕ). restoreCode l steps) there
+      ∙ chain-beyond (usedBytes S) (ap (λ (n : ℕ). length (take n (S .bytes))) none) Rs steps (all-sound S Rs ok rows) h
 
 -- a save is found whatever stands before it
 module _ (R : RelayRound) (rows : RowsOf64 R) where

@@ -16,7 +16,8 @@ use Rattle.checkpoints.proofs.SaveRows.{fitting, save-bytes}
 use Rattle.checkpoints.proofs.StateLaws.{passed}
 use Rattle.checkpoints.proofs.Replays.{repeats-lead, changes-repeat, all-repeat, run-on}
 use Rattle.checkpoints.proofs.Refused.{no-room, first-wrong, last-wrong, too-near, too-far, bad-somewhere, somewhere-bad, way-five, five-way, other-distance}
-use Rattle.demands.specs.SavedRounds.{SavedIsRestored, RestUntouched, StepsBack, OneSave, SaveIsBytes, ComesBack, BadOnTheWay, OnlyBadOnTheWay, OtherDistance}
+use Rattle.demands.specs.SavedRounds.{SavedIsRestored, RestUntouched, StepsBack, OneSave, SaveIsBytes, ComesBack}
+use Rattle.demands.specs.SavedRounds.{BadOnTheWay, OnlyBadOnTheWay, OtherDistance}
 
 pub saved-is-restored : SavedIsRestored
 saved-is-restored R rows ok S room = save-found R rows ok S room
@@ -25,8 +26,8 @@ pub rest-untouched : RestUntouched
 rest-untouched R rows S = untouched R rows S
 
 pub steps-back : StepsBack
-steps-back S none Rs rows ok =
-    (λ later R earlier e. chain-restored S none Rs rows ok later R earlier e, λ steps h. chain-refused S none Rs rows ok steps h)
+steps-back S Rs rows ok =
+    (λ later R earlier e. chain-restored S Rs rows ok later R earlier e, λ none steps h. chain-refused S Rs rows ok none steps h)
 
 pub one-save : OneSave
 one-save B b steps r = (read-again B b steps r, λ C c others q same. same-saves B C b c steps others r q same)
@@ -35,9 +36,9 @@ pub save-is-bytes : SaveIsBytes
 save-is-bytes R ok q n a b = save-bytes R (fitting R (passed R ok) q n a b)
 
 pub comes-back : (O : RelayRound) (before since : List Event) (S : Store) (later earlier : List RelayRound) → ComesBack O before since S later earlier
-comes-back O before since S later earlier none rows ok =
+comes-back O before since S later earlier rows ok =
     let kept : RelayRound = relayRun O before in
-    let same = chain-restored S none (later ++ (kept ∷ earlier)) rows ok later kept earlier refl .1 in
+    let same = chain-restored S (later ++ (kept ∷ earlier)) rows ok later kept earlier refl .1 in
     let ends : (repeated : List Event) → Repeats kept since repeated
     → relayRun (restored (usedBytes (stored S (later ++ (kept ∷ earlier)))) (length later)) repeated ≡ relayRun O (before ++ since) = λ repeated r.
     ap (λ (X : RelayRound). relayRun X repeated) same ∙ repeats-lead kept since repeated r ∙ sym (run-on O before since) in

@@ -32,15 +32,16 @@ RestUntouched =
     × (take (S .used) (storeAfter R S .bytes) ≡ take (S .used) (S .bytes))
     × (drop (storeAfter R S .used) (storeAfter R S .bytes) ≡ drop (storeAfter R S .used) (S .bytes))
 
--- "The distance leads back to the save before, and a save is named by its steps back, 0 for the last.": of saves one after the other, from no used bytes on and
--- none refused, each is restored as many steps back as there are later ones. "A step beyond the first save is refused with 5": that many steps, and any more
+-- "The distance leads back to the save before, and a save is named by its steps back, 0 for the last.": of saves one after the other, none refused, whatever
+-- bytes stand before the first, each is restored as many steps back as there are later ones. "A step beyond the first save is refused with 5": from no used
+-- bytes on, as many steps as there are saves, and any more
 abbrev pub StepsBack : Type 0
 StepsBack =
-    (S : Store) → S .used ≡ 0 → (Rs : List RelayRound) → All RowsOf64 Rs → NoneRefused S Rs
+    (S : Store) (Rs : List RelayRound) → All RowsOf64 Rs → NoneRefused S Rs
     → ((later : List RelayRound) (R : RelayRound) (earlier : List RelayRound) → Rs ≡ later ++ (R ∷ earlier)
     → (restoreCode (usedBytes (stored S Rs)) (length later) ≡ accepted)
     × (restored (usedBytes (stored S Rs)) (length later) ≡ R))
-    × ((steps : ℕ) → length Rs ≤ steps → restoreCode (usedBytes (stored S Rs)) steps ≡ code 5)
+    × (S .used ≡ 0 → (steps : ℕ) → length Rs ≤ steps → restoreCode (usedBytes (stored S Rs)) steps ≡ code 5)
 
 -- the bytes of the save so many steps back, from its first to its last
 abbrev pub saveAt : List ℕ → ℕ → List ℕ
@@ -62,9 +63,10 @@ SaveIsBytes =
     → (i : ℕ)
     → at (saveOf R) i < 256
 
--- "A gateway that resumes and repeats, in the same order, every frame counted and every moving on since the save, ends in the state of one that never stopped.":
--- a relay from any state, and any events before its save, which any others may follow. Refused events and sums asked for since the save may be left out, or be
--- repeated too, all or some of them. "Meters send again what they sent, the same symbols under the same key.": a frame that is repeated is the same frame
+-- "A gateway that resumes and repeats, in the same order, every frame counted and every moving on since the save, ends in the state of one that never
+-- stopped.": a relay from any state, and any events before its save, which any others may follow; whatever bytes stand before the first
+-- save. Refused events and sums asked for since the save may be left out, or be repeated too, all or some of them. "Meters send again what they sent, the
+-- same symbols under the same key.": a frame that is repeated is the same frame
 module _ (O : RelayRound) (before since : List Event) (S : Store) (later earlier : List RelayRound) where
   -- the relay where it is saved, and where it comes back
   abbrev kept : RelayRound
@@ -75,7 +77,7 @@ module _ (O : RelayRound) (before since : List Event) (S : Store) (later earlier
 
   abbrev pub ComesBack : Type 0
   ComesBack =
-      S .used ≡ 0 → All RowsOf64 (later ++ (kept ∷ earlier)) → NoneRefused S (later ++ (kept ∷ earlier))
+      All RowsOf64 (later ++ (kept ∷ earlier)) → NoneRefused S (later ++ (kept ∷ earlier))
       → (relayRun back (changesOf kept since) ≡ relayRun O (before ++ since))
       × (relayRun back since ≡ relayRun O (before ++ since))
       × ((repeated : List Event) → Repeats kept since repeated → relayRun back repeated ≡ relayRun O (before ++ since))
