@@ -1,5 +1,4 @@
 -- Coming back (document 02, Q-11): what a relay that resumes has to repeat.
-use mathlib.Core.Path.{_≡_}
 use mathlib.Core.Bool.{Bool, false, cond}
 use mathlib.Core.List.{List, [], _∷_}
 use Rattle.refusals.specs.Codes.{isAccepted}
@@ -16,9 +15,3 @@ changes R (asks out) = false
 unfoldable pub changesOf : RelayRound → List Event → List Event
 changesOf R [] = []
 changesOf R (e ∷ events) = cond (changes R e) (e ∷ changesOf (nextOf R e) events) (changesOf R events)
-
--- what may be repeated of a list of events: each that changes the round, in the same order, and of the others any
-pub data Repeats : RelayRound → List Event → List Event → Type 0 where
-  done : {R : RelayRound} → Repeats R [] []
-  repeats : {R : RelayRound} {e : Event} {events repeated : List Event} → Repeats (nextOf R e) events repeated → Repeats R (e ∷ events) (e ∷ repeated)
-  leaves : {R : RelayRound} {e : Event} {events repeated : List Event} → changes R e ≡ false → Repeats R events repeated → Repeats R (e ∷ events) repeated

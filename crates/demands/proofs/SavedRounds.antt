@@ -9,12 +9,12 @@ use Rattle.rounds.specs.declared.RelayRound.{RelayRound}
 use Rattle.rounds.specs.Relays.{Event, relayRun}
 use Rattle.checkpoints.specs.Checkpoints.{badTrailerAt, endBack, restoreCode, restored}
 use Rattle.checkpoints.specs.Stores.{Store, usedBytes, stored}
-use Rattle.checkpoints.specs.Replays.{changesOf, Repeats}
+use Rattle.checkpoints.specs.Replays.{changesOf}
 use Rattle.checkpoints.proofs.Chains.{save-found, untouched, chain-restored, chain-refused}
 use Rattle.checkpoints.proofs.OneSaves.{read-again, same-saves}
 use Rattle.checkpoints.proofs.SaveRows.{fitting, save-bytes}
 use Rattle.checkpoints.proofs.StateLaws.{passed}
-use Rattle.checkpoints.proofs.Replays.{repeats-lead, changes-repeat, all-repeat, run-on}
+use Rattle.checkpoints.proofs.Replays.{changes-lead, same-changes, run-on}
 use Rattle.checkpoints.proofs.Refused.{no-room, first-wrong, last-wrong, too-near, too-far, bad-somewhere, somewhere-bad, way-five, five-way, other-distance}
 use Rattle.demands.specs.SavedRounds.{SavedIsRestored, RestUntouched, StepsBack, OneSave, SaveIsBytes, ComesBack}
 use Rattle.demands.specs.SavedRounds.{BadOnTheWay, OnlyBadOnTheWay, OtherDistance}
@@ -39,10 +39,10 @@ pub comes-back : (O : RelayRound) (before since : List Event) (S : Store) (later
 comes-back O before since S later earlier rows ok =
     let kept : RelayRound = relayRun O before in
     let same = chain-restored S (later ++ (kept ∷ earlier)) rows ok later kept earlier refl .1 in
-    let ends : (repeated : List Event) → Repeats kept since repeated
+    let ends : (repeated : List Event) → relayRun kept repeated ≡ relayRun kept since
     → relayRun (restored (usedBytes (stored S (later ++ (kept ∷ earlier)))) (length later)) repeated ≡ relayRun O (before ++ since) = λ repeated r.
-    ap (λ (X : RelayRound). relayRun X repeated) same ∙ repeats-lead kept since repeated r ∙ sym (run-on O before since) in
-    (ends (changesOf kept since) (changes-repeat kept since), ends since (all-repeat kept since), ends)
+    ap (λ (X : RelayRound). relayRun X repeated) same ∙ r ∙ sym (run-on O before since) in
+    (ends (changesOf kept since) (changes-lead kept since), ends since refl, λ repeated e. ends repeated (same-changes kept repeated since e))
 
 module _ (B : List ℕ) (steps : ℕ) where
   pub bad-on-the-way : BadOnTheWay B steps

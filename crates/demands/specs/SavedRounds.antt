@@ -13,7 +13,7 @@ use Rattle.rounds.specs.declared.RelayRound.{RelayRound}
 use Rattle.rounds.specs.Relays.{relayChecks, Event, relayRun}
 use Rattle.checkpoints.specs.Checkpoints.{saveOf, saveCode, distanceAt, badTrailerAt, endBack, badWay, startAt, lastByte, roundRead, restoreCode, restored}
 use Rattle.checkpoints.specs.Stores.{Store, usedBytes, storeAfter, stored, NoneRefused, RowsOf64}
-use Rattle.checkpoints.specs.Replays.{changesOf, Repeats}
+use Rattle.checkpoints.specs.Replays.{changesOf}
 
 -- "A save goes into a buffer after a stated number of used bytes": every state that passes its checks is saved where D bytes are free, and restored from the
 -- used bytes as it was, whatever bytes stand before it and behind it
@@ -64,9 +64,10 @@ SaveIsBytes =
     → at (saveOf R) i < 256
 
 -- "A gateway that resumes and repeats, in the same order, every frame counted and every moving on since the save, ends in the state of one that never
--- stopped.": a relay from any state, and any events before its save, which any others may follow; whatever bytes stand before the first
--- save. Refused events and sums asked for since the save may be left out, or be repeated too, all or some of them. "Meters send again what they sent, the
--- same symbols under the same key.": a frame that is repeated is the same frame
+-- stopped.": a relay from any state, and any events before its save, which other saves may follow; whatever bytes stand before the first save. It may repeat
+-- those events alone, all events since the save, or any events among which just those change the round, in the same order; the others are sums asked for and
+-- refused frames and movings on, a frame that was counted before the save among them. "Meters send again what they sent, the same symbols under the same key.":
+-- a frame that is repeated is the same frame
 module _ (O : RelayRound) (before since : List Event) (S : Store) (later earlier : List RelayRound) where
   -- the relay where it is saved, and where it comes back
   abbrev kept : RelayRound
@@ -80,7 +81,7 @@ module _ (O : RelayRound) (before since : List Event) (S : Store) (later earlier
       All RowsOf64 (later ++ (kept ∷ earlier)) → NoneRefused S (later ++ (kept ∷ earlier))
       → (relayRun back (changesOf kept since) ≡ relayRun O (before ++ since))
       × (relayRun back since ≡ relayRun O (before ++ since))
-      × ((repeated : List Event) → Repeats kept since repeated → relayRun back repeated ≡ relayRun O (before ++ since))
+      × ((repeated : List Event) → changesOf kept repeated ≡ changesOf kept since → relayRun back repeated ≡ relayRun O (before ++ since))
 
 module _ (B : List ℕ) (steps : ℕ) where
   -- the place where the save n steps back ends
