@@ -20,7 +20,8 @@ use Rattle.rounds.specs.Relays.{relayRound, held, nothing, relayKnown, relayCon
 abbrev pub saveSize : ℕ → ℕ
 saveSize L = 20 + 8 * L
 
--- U, V, cluster, L; q; the round number; the two rolls; the sums and the held sums; the distance; the mark, "bytes 4B 52"
+-- "A saved round has U, V, cluster and L in one byte each; q in four; the round number in four; the two rolls of two bytes each; L sums and L held sums of four
+-- bytes each; distance in two; bytes 4B 52; low byte first throughout."
 unfoldable pub saveOf : RelayRound → List ℕ
 saveOf R =
     (R .round .clusters ∷ R .round .size ∷ R .cluster ∷ R .round .length ∷ bytesOf 4 (R .round .q))

@@ -2,7 +2,7 @@
 use Prim.Native.Nat.{ℕ}
 use mathlib.Core.Path.{_≡_, refl, sym, ap, _∙_}
 use mathlib.Core.Bool.{true}
-use mathlib.Core.List.{List, _∷_, _++_}
+use mathlib.Core.List.{List, [], _∷_, _++_}
 use lib.ListN.{length}
 use Rattle.refusals.specs.Codes.{code}
 use Rattle.rounds.specs.declared.RelayRound.{RelayRound}
@@ -12,12 +12,16 @@ use Rattle.checkpoints.specs.Stores.{Store, usedBytes, stored}
 use Rattle.checkpoints.specs.Replays.{changesOf}
 use Rattle.checkpoints.proofs.Chains.{save-found, untouched, chain-restored, chain-refused}
 use Rattle.checkpoints.proofs.OneSaves.{read-again, same-saves}
+use Rattle.checkpoints.proofs.SaveLaws.{save-length}
 use Rattle.checkpoints.proofs.SaveRows.{fitting, save-bytes}
 use Rattle.checkpoints.proofs.StateLaws.{passed}
 use Rattle.checkpoints.proofs.Replays.{changes-lead, same-changes, run-on}
 use Rattle.checkpoints.proofs.Refused.{no-room, first-wrong, last-wrong, too-near, too-far, bad-somewhere, somewhere-bad, way-five, five-way, other-distance}
-use Rattle.demands.specs.SavedRounds.{SavedIsRestored, RestUntouched, StepsBack, OneSave, SaveIsBytes, ComesBack}
+use Rattle.demands.specs.SavedRounds.{SaveSize, SavedIsRestored, RestUntouched, StepsBack, OneSave, SaveIsBytes, ComesBack}
 use Rattle.demands.specs.SavedRounds.{BadOnTheWay, OnlyBadOnTheWay, OtherDistance}
+
+pub save-size : SaveSize
+save-size R rows ok = save-length [] R [] (rows .0) (rows .1) (passed R ok)
 
 pub saved-is-restored : SavedIsRestored
 saved-is-restored R rows ok S room = save-found R rows ok S room

@@ -15,6 +15,10 @@ use Rattle.checkpoints.specs.Checkpoints.{saveOf, saveCode, distanceAt, badTrai
 use Rattle.checkpoints.specs.Stores.{Store, usedBytes, storeAfter, stored, NoneRefused, RowsOf64}
 use Rattle.checkpoints.specs.Replays.{changesOf}
 
+-- "D = 20 + 8 × L.": a save has that many bytes
+abbrev pub SaveSize : Type 0
+SaveSize = (R : RelayRound) → RowsOf64 R → accepted ≡ firstOf (relayChecks R) → length (saveOf R) ≡ 20 + 8 * R .round .length
+
 -- "A save goes into a buffer after a stated number of used bytes": every state that passes its checks is saved where D bytes are free, and restored from the
 -- used bytes as it was, whatever bytes stand before it and behind it
 abbrev pub SavedIsRestored : Type 0
