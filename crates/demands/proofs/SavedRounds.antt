@@ -1,13 +1,14 @@
 -- Q-11: each statement.
-use Prim.Native.Nat.{ℕ}
+use Prim.Native.Nat.{ℕ, _+_}
 use mathlib.Core.Path.{_≡_, refl, sym, ap, _∙_}
-use mathlib.Core.Bool.{true}
+use mathlib.Core.Bool.{Bool, true}
 use mathlib.Core.List.{List, [], _∷_, _++_}
-use lib.ListN.{length}
+use lib.ListN.{length, take, drop}
+use Rattle.refusals.specs.declared.Code.{Code}
 use Rattle.refusals.specs.Codes.{code}
 use Rattle.rounds.specs.declared.RelayRound.{RelayRound}
 use Rattle.rounds.specs.Relays.{Event, relayRun}
-use Rattle.checkpoints.specs.Checkpoints.{badTrailerAt, endBack, restoreCode, restored}
+use Rattle.checkpoints.specs.Checkpoints.{saveOf, saveSize, saveChecks, badTrailerAt, endBack, restoreCode, restored}
 use Rattle.checkpoints.specs.Stores.{Store, usedBytes, stored}
 use Rattle.checkpoints.specs.Replays.{changesOf}
 use Rattle.checkpoints.proofs.Chains.{save-found, untouched, chain-restored, chain-refused}
@@ -17,7 +18,8 @@ use Rattle.checkpoints.proofs.SaveRows.{fitting, save-bytes}
 use Rattle.checkpoints.proofs.StateLaws.{passed}
 use Rattle.checkpoints.proofs.Replays.{changes-lead, same-changes, run-on}
 use Rattle.checkpoints.proofs.Refused.{no-room, first-wrong, last-wrong, too-near, too-far, bad-somewhere, somewhere-bad, way-five, five-way, other-distance}
-use Rattle.demands.specs.SavedRounds.{SaveSize, SavedIsRestored, RestUntouched, StepsBack, OneSave, SaveIsBytes, ComesBack}
+use Rattle.demands.proofs.Refusals.{refused-leaves}
+use Rattle.demands.specs.SavedRounds.{SaveSize, SavedIsRestored, RefusedSave, RestUntouched, StepsBack, OneSave, SaveIsBytes, ComesBack}
 use Rattle.demands.specs.SavedRounds.{BadOnTheWay, OnlyBadOnTheWay, OtherDistance}
 
 pub save-size : SaveSize
@@ -25,6 +27,14 @@ save-size R rows ok = save-length [] R [] (rows .0) (rows .1) (passed R ok)
 
 pub saved-is-restored : SavedIsRestored
 saved-is-restored R rows ok S room = save-found R rows ok S room
+
+pub refused-save : RefusedSave
+refused-save R S n =
+    let B : List ℕ = S .bytes in
+    let u : ℕ = S .used in
+    let D : ℕ = saveSize (R .round .length) in
+    let checks : List (Bool × Code) = saveChecks R B u in
+    λ i. record { bytes = refused-leaves checks tt n (take u B ++ saveOf R ++ drop (u + D) B) B i; used = refused-leaves checks tt n (u + D) u i }
 
 pub rest-untouched : RestUntouched
 rest-untouched R rows S = untouched R rows S

@@ -28,7 +28,11 @@ SavedIsRestored =
     × (restoreCode (usedBytes (storeAfter R S)) 0 ≡ accepted)
     × (restored (usedBytes (storeAfter R S)) 0 ≡ R)
 
--- and what stands before it and behind it is as it was, whether the call is refused or not
+-- document 01: "a refusal leaves all lent memory and every round state as it found them.": a refused save writes no byte, and no more bytes are used
+abbrev pub RefusedSave : Type 0
+RefusedSave = (R : RelayRound) (S : Store) → saveCode R (S .bytes) (S .used) ≢ accepted → storeAfter R S ≡ S
+
+-- what stands before a save and behind it is as it was, whether the call is refused or not
 abbrev pub RestUntouched : Type 0
 RestUntouched =
     (R : RelayRound) → RowsOf64 R → (S : Store)
