@@ -13,8 +13,8 @@ use Rattle.lists.specs.Search.{oneOf}
 use Rattle.lists.specs.Sums.{sumTo}
 use Rattle.streams.specs.Streams.{drawn}
 use Rattle.stocks.specs.declared.Stock.{Stock}
-use Rattle.stocks.specs.Stocks.{maxPools, reserveOf, limitOf, drawnOf, position, owedToOthers, Eight, fits, openCode, opened, Draw, Asks, stockCode}
-use Rattle.stocks.specs.Stocks.{runOf, answered, symbolsGiven, placesGiven, Left, ofPool, addedUp}
+use Rattle.stocks.specs.Stocks.{maxPools, reserveOf, limitOf, drawnOf, position, owedToOthers, Eight, fits, openCode, opened, Draw, Asks}
+use Rattle.stocks.specs.Stocks.{stockCode, stockAfter, outAfter, runOf, answered, symbolsGiven, placesGiven, Left, ofPool, addedUp}
 
 -- any draws of any pools, from an opening that is not refused
 module _ (stream : List ℕ) (pools : ℕ) (reserves limits : List ℕ) (opens : accepted ≡ openCode pools reserves limits stream) where
@@ -37,19 +37,25 @@ module _ (stream : List ℕ) (pools : ℕ) (reserves limits : List ℕ) (opens :
         × (position end ≡ sumTo pools (λ i. addedUp (ofPool (i + 1) all)))
         × (position end ≡ addedUp all)
 
--- document 01: "No symbol is drawn twice from a position that only draws have moved." Whoever draws, the answered draws take the places from the first position
--- to the last, one after the other; each symbol that they write has a place, and is the stream's there; and no two have the same place
+-- document 01: "No symbol is drawn twice from a position that only draws have moved." Whoever draws, the position moves on by one for each place that the
+-- answered draws take; these are the places from the first position on, one after the other; each symbol that they write has a place, and is the stream's
+-- there; and no two have the same place
 abbrev pub GivenOnce : Type 0
 GivenOnce =
     (stream : List ℕ) (S : Stock) (draws : List Draw)
     → (let places = placesGiven stream S draws in
     let symbols = symbolsGiven stream S draws in
-    let moved = position (runOf stream S draws) - position S in
-    (places ≡ tab moved (λ k. position S + k))
-    × (symbols ≡ drawn stream (position S) moved)
+    (position (runOf stream S draws) ≡ position S + length places)
+    × (places ≡ tab (length places) (λ k. position S + k))
+    × (symbols ≡ drawn stream (position S) (length places))
     × (length symbols ≡ length places)
     × ((k : ℕ) → k < length places → at symbols k ≡ at stream (at places k))
     × ((i j : ℕ) → i < length places → j < length places → at places i ≡ at places j → i ≡ j))
+
+-- document 01: "a refusal leaves all lent memory and every round state as it found them.": a refused draw hands back the stock, and leaves the buffer as it was
+abbrev pub RefusedDraw : Type 0
+RefusedDraw =
+    (stream : List ℕ) (S : Stock) (d : Draw) → stockCode stream S d ≢ accepted → (stockAfter stream S d ≡ S) × (outAfter stream S d ≡ d .out)
 
 -- "21 when a share exceeds its limit, the shares exceed the tape, or a stock handed in is one that no draws on this tape could leave.": a stock for one to
 -- eight pools (otherwise 1) is refused so exactly where no draws from an opening leave it. `fits` is the test
@@ -79,6 +85,13 @@ module _ (stream : List ℕ) (S : Stock) (left : Left stream S) where
       (others : List Draw) (d : Draw) → All (λ (o : Draw). o .pool ≢ d .pool) others → Asks (S .pools) d
       → drawnOf S (d .pool - 1) + d .length ≤ reserveOf S (d .pool - 1)
       → accepted ≡ stockCode stream (runOf stream S others) d
+
+  -- and so it is after any draws, the pool's own and refused ones among them: what it hasn't drawn of its reserve by then is there
+  abbrev pub SureNow : Type 0
+  SureNow =
+      (draws : List Draw) (d : Draw) → Asks (S .pools) d
+      → drawnOf (runOf stream S draws) (d .pool - 1) + d .length ≤ reserveOf S (d .pool - 1)
+      → accepted ≡ stockCode stream (runOf stream S draws) d
 
   -- the same of many draws, with any draws of others before, between and after them: all of the pool's are answered
   abbrev pub SureShares : Type 0

@@ -10,7 +10,7 @@ use Rattle.refusals.specs.declared.Code.{Code}
 use Rattle.refusals.specs.Codes.{isAccepted, ifAccepted}
 use Rattle.lists.specs.Lists.{at, tab}
 use Rattle.lists.specs.Sums.{sumTo}
-use Rattle.lists.proofs.ListLaws.{el-zeros}
+use Rattle.lists.proofs.ListLaws.{length-tab, el-zeros}
 use Rattle.lists.proofs.Sums.{sum-cong, sum-zero}
 use Rattle.streams.specs.Streams.{drawCode, drawn, positionAfterAll, symbolsDrawn, placesDrawn}
 use Rattle.streams.proofs.StreamLaws.{draws-give, draws-consecutive, draws-counted, draws-placed, draws-disjoint}
@@ -176,15 +176,27 @@ module _ (stream : List ℕ) where
     abbrev moved : ℕ
     moved = position (runOf stream S draws) - position S
 
-    pub given-consecutive : places ≡ tab moved (λ k. position S + k)
-    given-consecutive =
+    consecutive : places ≡ tab moved (λ k. position S + k)
+    consecutive =
         run-places S draws
         ∙ draws-consecutive stream (position S) asked
         ∙ ap (λ (n : ℕ). tab (n - position S) (λ k. position S + k)) (run-moves S draws)
 
-    pub given-symbols : symbols ≡ drawn stream (position S) moved
+    count : moved ≡ length places
+    count = sym (ap length consecutive ∙ length-tab moved (λ k. position S + k))
+
+    pub given-moved : position (runOf stream S draws) ≡ position S + length places
+    given-moved = omega (arith, run-position S draws, count)
+
+    pub given-consecutive : places ≡ tab (length places) (λ k. position S + k)
+    given-consecutive = consecutive ∙ ap (λ (n : ℕ). tab n (λ k. position S + k)) count
+
+    pub given-symbols : symbols ≡ drawn stream (position S) (length places)
     given-symbols =
-        run-symbols S draws ∙ draws-give stream (position S) asked ∙ ap (λ (n : ℕ). drawn stream (position S) (n - position S)) (run-moves S draws)
+        run-symbols S draws
+        ∙ draws-give stream (position S) asked
+        ∙ ap (λ (n : ℕ). drawn stream (position S) (n - position S)) (run-moves S draws)
+        ∙ ap (drawn stream (position S)) count
 
     pub given-counted : length symbols ≡ length places
     given-counted = ap length (run-symbols S draws) ∙ draws-counted stream (position S) asked ∙ sym (ap length (run-places S draws))

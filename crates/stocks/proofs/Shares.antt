@@ -150,12 +150,16 @@ module _ (stream : List ℕ) where
       reserve-later : (i : ℕ) → reserveOf later i ≡ reserveOf S i
       reserve-later i = ap (λ (l : List ℕ). at l i) (run-reserves stream S others)
 
+      pub sure-now : (d : Draw) → Asks (S .pools) d → drawnOf later (d .pool - 1) + d .length ≤ reserveOf S (d .pool - 1)
+          → accepted ≡ stockCode stream later d
+      sure-now d a h =
+          answers stream later d (share-passes later d good-later (subst (λ (n : ℕ). Asks n d) (sym (run-pools stream S others)) a)
+          (omega (arith, reserve-later (d .pool - 1), h)))
+
       pub sure-share : (d : Draw) → All (notBy (d .pool)) others → Asks (S .pools) d → drawnOf S (d .pool - 1) + d .length ≤ reserveOf S (d .pool - 1)
           → accepted ≡ stockCode stream later d
       sure-share d none a h =
-          let same = others-leave (d .pool) (a .from) (omega (arith, a .to, good-now .few)) S others none in
-          answers stream later d (share-passes later d good-later (subst (λ (n : ℕ). Asks n d) (sym (run-pools stream S others)) a)
-          (omega (arith, same, reserve-later (d .pool - 1), h)))
+          sure-now d a (omega (arith, others-leave (d .pool) (a .from) (omega (arith, a .to, good-now .few)) S others none, h))
 
       pub whole-share : (p : ℕ) → 1 ≤ p → p ≤ S .pools → drawnOf S (p - 1) ≤ reserveOf S (p - 1) → All (notBy p) others
           → (own : List Draw) × All (λ (d : Draw). d .pool ≡ p) own × (drawnOf (runOf stream later own) (p - 1) ≡ reserveOf S (p - 1))
