@@ -21,7 +21,7 @@ use Rattle.networks.specs.declared.Ring.{Ring}
 use Rattle.networks.specs.Rings.{networkOf, decodeChecks}
 use Rattle.networks.proofs.RingLaws.{sound}
 use Rattle.networks.proofs.CheckLaws.{ready-known, arrivals-known}
-use Rattle.networks.proofs.VetLaws.{no-six, accepted-passes, accepted-quiet, refused-iff, named-first, first-named}
+use Rattle.networks.proofs.VetLaws.{vet-numbers, no-six, accepted-passes, accepted-quiet, refused-iff, named-first, first-named}
 use Rattle.networks.proofs.RoundTrip.{upload-taken, upload-meant, sum-taken, sum-meant, checks-same, after-same, accepted-decodable}
 use Rattle.networks.proofs.RoundTrip.{decodable-accepted, undecodable-refused, refused-undecodable, totals-written, arrivals-taken}
 use Rattle.demands.specs.CyclicNetwork.{relayBefore, LinksGoRound, LinkedIff, LinksMeet, InOrder, NoSix, WrongPattern, NetworkHides, RefusedIffLeaks}
@@ -44,7 +44,7 @@ module _ (C : Network) where
 
 module _ (R : Ring) (K A : List ℕ) where
   pub in-order : InOrder R K A
-  in-order = (refl, (λ k g w x. refl), (λ U. refl), (λ reported Y out. refl))
+  in-order = (refl, vet-numbers R K A, (λ k g w x. refl), (λ U. refl), (λ reported Y out. refl))
 
   pub never-six : NoSix R K A
   never-six = no-six R K A

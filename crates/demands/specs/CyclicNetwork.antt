@@ -53,10 +53,11 @@ abbrev pub numbers : List (Bool × Code) → List ℕ
 numbers = map (λ check. check .1 .number)
 
 module _ (R : Ring) (K A : List ℕ) where
-  -- "Order: 1, 22, 4, 2, 3, then 7 for the vet, 8 for an unlinked upload or a roll bit outside K, last 23."
+  -- "Order: 1, 22, 4, 2, 3, then 7 for the vet, 8 for an unlinked upload or a roll bit outside K, last 23.": 7 once for each relay and once for the server
   abbrev pub InOrder : Type 0
   InOrder =
       (numbers (networkChecks R K A) ≡ 1 ∷ 22 ∷ 4 ∷ 2 ∷ 3 ∷ [])
+      × (numbers (vetChecks R K A) ≡ 1 ∷ 22 ∷ 4 ∷ 2 ∷ 3 ∷ tab (suc (R .size)) (λ _. 7))
       × ((k g : ℕ) (w : List ℕ) (x : ℕ) → numbers (uploadChecks R A k g w x) ≡ 1 ∷ 22 ∷ 4 ∷ 2 ∷ 3 ∷ 8 ∷ [])
       × ((U : List ℕ) → numbers (sumChecks R U) ≡ 1 ∷ 22 ∷ 4 ∷ 2 ∷ 3 ∷ [])
       × ((reported : ℕ) (Y out : List ℕ) → numbers (decodeChecks R K A reported Y out) ≡ 1 ∷ 22 ∷ 4 ∷ 2 ∷ 3 ∷ 8 ∷ 23 ∷ [])

@@ -4,7 +4,7 @@ use Prim.Native.Nat.{ℕ, zero, suc, _+_, _≤_, _<_}
 use mathlib.Core.Path.{_≡_, refl, sym, ap, _∙_, subst}
 use mathlib.Core.Bool.{Bool, true, false}
 use mathlib.Core.Logic.{_≢_, _⊎_, inl, inr, ⊎-elim, _↔_}
-use mathlib.Core.List.{List}
+use mathlib.Core.List.{List, _∷_, map}
 use native.Mathlib.Nat.{eq-or-lt-of-le}
 use native.Mathlib.Decide.{decLt, ℕ-discrete}
 use native.Mathlib.Omega.{arith}
@@ -13,6 +13,7 @@ use Rattle.refusals.specs.declared.Code.{Code}
 use Rattle.refusals.specs.Codes.{accepted, firstOf}
 use Rattle.refusals.proofs.Orders.{first-accepts, rest-decides, lacks, never-given}
 use Rattle.residues.proofs.PrimeLaws.{prime-pos}
+use Rattle.lists.specs.Lists.{tab}
 use Rattle.lists.proofs.Searches.{true→T, false→not-T}
 use Rattle.cyclic.specs.Network.{Network}
 use Rattle.cyclic.specs.NetworkLeaks.{ObserverLeak, leaks}
@@ -80,7 +81,17 @@ module _ (C : Network) where
   walk-lacks zero j = tt
   walk-lacks (suc k) j = walk-lacks k (suc j)
 
+  -- 7 for each of k relays and the server
+  walk-numbers : (k j : ℕ) → map (λ check. check .1 .number) (leakChecks C k j) ≡ tab (suc k) (λ _. 7)
+  unfolding tab
+  walk-numbers zero j = refl
+  walk-numbers (suc k) j = ap (_∷_ 7) (walk-numbers k (suc j))
+
 module _ (R : Ring) (K A : List ℕ) where
+  -- the order of the vet: what every entry asks first, and then 7
+  pub vet-numbers : map (λ check. check .1 .number) (vetChecks R K A) ≡ 1 ∷ 22 ∷ 4 ∷ 2 ∷ 3 ∷ tab (suc (R .size)) (λ _. 7)
+  vet-numbers = ap (λ (walk : List ℕ). 1 ∷ 22 ∷ 4 ∷ 2 ∷ 3 ∷ walk) (walk-numbers (networkOf R K A) (R .size) 0)
+
   -- 6 is never given
   pub no-six : firstOf (vetChecks R K A) .number ≢ 6
   no-six = never-given 6 (vetChecks R K A) (walk-lacks (networkOf R K A) (R .size) 0)
