@@ -40,8 +40,8 @@ module _ (C : Network) where
   LinkedIff =
       C .links ≤ C .size → (k j : ℕ) → k < C .size → j < C .size → T (linked C k j) ↔ ((l : ℕ) × (l < C .links) × (relayOf C k l ≡ j))
 
-  -- "for its gateways in that order": the coefficients of an upload from k to j are those of the link that `linkOf` says, which is the one that leads there; and
-  -- on link l relay j hears the user whose link l leads to it
+  -- "for its gateways in that order": the coefficients of an upload from k to j are those of the link that `linkOf` says, which is the one that leads there;
+  -- and on link l relay j hears the user whose link l leads to it
   abbrev pub LinksMeet : Type 0
   LinksMeet =
       (k j l : ℕ) → k < C .size → j < C .size → l < C .size
