@@ -1,14 +1,7 @@
 use borrow.Author.Needs.{needs}
-use Prim.Native.Nat.{ℕ, _≤_, _<_, _+_, _*_, _-_}
-use lib.ListN.{length}
-use mathlib.Core.Path.{_≡_}
+use Prim.Native.Nat.{_≤_, _-_}
 use Rattle.networks_test.proofs.write_counts.Statement.{statement}
 use Rattle.networks_test.proofs.write_counts.Tie as tie
-use Rattle.networks_test.proofs.write_counts.Reads as reads
-use Rattle.networks_test.proofs.write_counts.Lts as lts
-use Rattle.io.proofs.print_decimal.Reads as print-decimal-reads
-use Rattle.io.proofs.write_all.Reads as write-all-reads
-use Rattle.networks_test.proofs.write_count.Reads as write-count-reads
 
 abbrev Inv-loop : tie.InvT-loop
 Inv-loop tally number₀ t4 number = number ≤ 24
@@ -16,51 +9,39 @@ Inv-loop tally number₀ t4 number = number ≤ 24
 abbrev μ-loop : tie.MeasureT-loop
 μ-loop tally number₀ t4 number = 24 - number
 
--- src/main.rt:49:5
 loop-holds : tie.Need-loop-holds Inv-loop μ-loop
 loop-holds c = search needs
 
--- src/main.rt:50:21
 mul-write-count : tie.Need-mul-write-count Inv-loop μ-loop
 mul-write-count c = search needs
 
--- src/main.rt:50:21
 array-read-write-count : tie.Need-array-read-write-count Inv-loop μ-loop
 array-read-write-count c = search needs
 
--- src/main.rt:50:9
 write-count-requires : tie.Need-write-count-requires Inv-loop μ-loop
 write-count-requires c κs = search needs
 
--- src/main.rt:49:9
 add-number : tie.Need-add-number Inv-loop μ-loop
 add-number c = search needs
 
--- src/main.rt:49:5
 loop-less : tie.Need-loop-less Inv-loop μ-loop
 loop-less c = search needs
 
--- src/main.rt:49:5
 loop-again : tie.Need-loop-again Inv-loop μ-loop
 loop-again c = search needs
 
--- src/main.rt:52:38
 array-read-print-decimal : tie.Need-array-read-print-decimal Inv-loop μ-loop
 array-read-print-decimal c = search needs
 
--- src/main.rt:52:5
 print-decimal-requires : tie.Need-print-decimal-requires Inv-loop μ-loop
 print-decimal-requires c κs = search needs
 
--- src/main.rt:53:34
 slice-aggregate-write-all : tie.Need-slice-aggregate-write-all Inv-loop μ-loop
 slice-aggregate-write-all c = search needs
 
--- src/main.rt:53:5
 write-all-requires : tie.Need-write-all-requires Inv-loop μ-loop
 write-all-requires c κs = search needs
 
--- src/main.rt:48:1
 returns : tie.Need-returns Inv-loop μ-loop
 returns c = search needs
 

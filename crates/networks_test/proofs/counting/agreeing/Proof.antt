@@ -1,16 +1,7 @@
 use borrow.Author.Needs.{needs}
-use Prim.Native.Nat.{ℕ, _≤_, _<_, _+_, _*_, _-_}
-use lib.ListN.{length}
-use mathlib.Core.Path.{_≡_}
+use Prim.Native.Nat.{_-_}
 use Rattle.networks_test.proofs.counting.agreeing.Statement.{statement}
 use Rattle.networks_test.proofs.counting.agreeing.Tie as tie
-use Rattle.networks_test.proofs.counting.agreeing.Reads as reads
-use Rattle.networks_test.proofs.counting.agreeing.Lts as lts
-use Rattle.networks_test.proofs.counting.digits.Reads as digits-reads
-use Rattle.networks_test.proofs.network.total_of.Reads as total-of-reads
-use Rattle.std.proofs.num.wrapping_add_usize.Reads as wrapping-add-usize-reads
-use Rattle.testing.proofs.product.Reads as product-reads
-use Rattle.testing.proofs.wide.Reads as wide-reads
 
 abbrev Inv-loop : tie.InvT-loop
 Inv-loop ring observer n parts readings number₀ weight₀ s₀ number weight s = Unit {0}
@@ -18,59 +9,45 @@ Inv-loop ring observer n parts readings number₀ weight₀ s₀ number weight s
 abbrev μ-loop : tie.MeasureT-loop
 μ-loop ring observer n parts readings number₀ weight₀ s₀ number weight s = parts - s
 
--- src/counting.rt:95:9
 returns : tie.Need-returns Inv-loop μ-loop
 returns c = search needs
 
--- src/counting.rt:98:27
 wide-requires : tie.Need-wide-requires Inv-loop μ-loop
 wide-requires c κs = search needs
 
--- src/counting.rt:98:20
 digits-requires : tie.Need-digits-requires Inv-loop μ-loop
 digits-requires c κs = search needs
 
--- src/counting.rt:101:5
 loop-holds : tie.Need-loop-holds Inv-loop μ-loop
 loop-holds c = search needs
 
--- src/counting.rt:102:68
 slice-aggregate-total-of : tie.Need-slice-aggregate-total-of Inv-loop μ-loop
 slice-aggregate-total-of c = search needs
 
--- src/counting.rt:102:53
 total-of-requires : tie.Need-total-of-requires Inv-loop μ-loop
 total-of-requires c κs = search needs
 
--- src/counting.rt:102:45
 product-requires : tie.Need-product-requires Inv-loop μ-loop
 product-requires c κs = search needs
 
--- src/counting.rt:102:9
 wrapping-add-usize-requires : tie.Need-wrapping-add-usize-requires Inv-loop μ-loop
 wrapping-add-usize-requires c κs = search needs
 
--- src/counting.rt:103:34
 wide-requires-2 : tie.Need-wide-requires-2 Inv-loop μ-loop
 wide-requires-2 c κs = search needs
 
--- src/counting.rt:103:9
 product-requires-2 : tie.Need-product-requires-2 Inv-loop μ-loop
 product-requires-2 c κs = search needs
 
--- src/counting.rt:101:9
 add-s : tie.Need-add-s Inv-loop μ-loop
 add-s c = search needs
 
--- src/counting.rt:101:5
 loop-less : tie.Need-loop-less Inv-loop μ-loop
 loop-less c = search needs
 
--- src/counting.rt:101:5
 loop-again : tie.Need-loop-again Inv-loop μ-loop
 loop-again c = search needs
 
--- src/counting.rt:93:1
 returns-2 : tie.Need-returns-2 Inv-loop μ-loop
 returns-2 c = search needs
 

@@ -1,11 +1,7 @@
 use borrow.Author.Needs.{needs}
-use Prim.Native.Nat.{ℕ, _≤_, _<_, _+_, _*_, _-_}
-use lib.ListN.{length}
-use mathlib.Core.Path.{_≡_}
+use Prim.Native.Nat.{_≤_, _-_}
 use Rattle.networks_test.proofs.counting.differ.Statement.{statement}
 use Rattle.networks_test.proofs.counting.differ.Tie as tie
-use Rattle.networks_test.proofs.counting.differ.Reads as reads
-use Rattle.networks_test.proofs.counting.differ.Lts as lts
 
 abbrev Inv-loop : tie.InvT-loop
 Inv-loop a b v₀ v = v ≤ 128
@@ -13,43 +9,33 @@ Inv-loop a b v₀ v = v ≤ 128
 abbrev μ-loop : tie.MeasureT-loop
 μ-loop a b v₀ v = 128 - v
 
--- src/counting.rt:110:5
 loop-holds : tie.Need-loop-holds Inv-loop μ-loop
 loop-holds c = search needs
 
--- src/counting.rt:111:12
 mul-if1 : tie.Need-mul-if1 Inv-loop μ-loop
 mul-if1 c = search needs
 
--- src/counting.rt:111:12
 array-read-if1 : tie.Need-array-read-if1 Inv-loop μ-loop
 array-read-if1 c = search needs
 
--- src/counting.rt:111:20
 mul-if1-2 : tie.Need-mul-if1-2 Inv-loop μ-loop
 mul-if1-2 c = search needs
 
--- src/counting.rt:111:20
 array-read-if1-2 : tie.Need-array-read-if1-2 Inv-loop μ-loop
 array-read-if1-2 c = search needs
 
--- src/counting.rt:112:13
 returns : tie.Need-returns Inv-loop μ-loop
 returns c = search needs
 
--- src/counting.rt:110:9
 add-v : tie.Need-add-v Inv-loop μ-loop
 add-v c = search needs
 
--- src/counting.rt:110:5
 loop-less : tie.Need-loop-less Inv-loop μ-loop
 loop-less c = search needs
 
--- src/counting.rt:110:5
 loop-again : tie.Need-loop-again Inv-loop μ-loop
 loop-again c = search needs
 
--- src/counting.rt:109:1
 returns-2 : tie.Need-returns-2 Inv-loop μ-loop
 returns-2 c = search needs
 

@@ -1,14 +1,7 @@
 use borrow.Author.Needs.{needs}
-use Prim.Native.Nat.{ℕ, _≤_, _<_, _+_, _*_, _-_}
-use lib.ListN.{length}
-use mathlib.Core.Path.{_≡_}
+use Prim.Native.Nat.{_≤_, _-_}
 use Rattle.networks_test.proofs.counting.digits.Statement.{statement}
 use Rattle.networks_test.proofs.counting.digits.Tie as tie
-use Rattle.networks_test.proofs.counting.digits.Reads as reads
-use Rattle.networks_test.proofs.counting.digits.Lts as lts
-use Rattle.testing.proofs.narrow.Reads as narrow-reads
-use Rattle.testing.proofs.quotient.Reads as quotient-reads
-use Rattle.testing.proofs.residue.Reads as residue-reads
 
 abbrev Inv-loop : tie.InvT-loop
 Inv-loop q n t₀ rest₀ i₀ t rest i = i ≤ 8
@@ -16,43 +9,33 @@ Inv-loop q n t₀ rest₀ i₀ t rest i = i ≤ 8
 abbrev μ-loop : tie.MeasureT-loop
 μ-loop q n t₀ rest₀ i₀ t rest i = 8 - i
 
--- src/counting.rt:34:5
 loop-holds : tie.Need-loop-holds Inv-loop μ-loop
 loop-holds c = search needs
 
--- src/counting.rt:35:23
 residue-requires : tie.Need-residue-requires Inv-loop μ-loop
 residue-requires c κs = search needs
 
--- src/counting.rt:35:16
 narrow-requires : tie.Need-narrow-requires Inv-loop μ-loop
 narrow-requires c κs = search needs
 
--- src/counting.rt:35:9
 mul-t : tie.Need-mul-t Inv-loop μ-loop
 mul-t c = search needs
 
--- src/counting.rt:35:9
 array-write-t : tie.Need-array-write-t Inv-loop μ-loop
 array-write-t c = search needs
 
--- src/counting.rt:36:9
 quotient-requires : tie.Need-quotient-requires Inv-loop μ-loop
 quotient-requires c κs = search needs
 
--- src/counting.rt:34:9
 add-i : tie.Need-add-i Inv-loop μ-loop
 add-i c = search needs
 
--- src/counting.rt:34:5
 loop-less : tie.Need-loop-less Inv-loop μ-loop
 loop-less c = search needs
 
--- src/counting.rt:34:5
 loop-again : tie.Need-loop-again Inv-loop μ-loop
 loop-again c = search needs
 
--- src/counting.rt:31:1
 returns : tie.Need-returns Inv-loop μ-loop
 returns c = search needs
 

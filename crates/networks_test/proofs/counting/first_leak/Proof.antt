@@ -1,13 +1,7 @@
 use borrow.Author.Needs.{needs}
-use Prim.Native.Nat.{ℕ, _≤_, _<_, _+_, _*_, _-_}
-use lib.ListN.{length}
-use mathlib.Core.Path.{_≡_}
+use Prim.Native.Nat.{_-_}
 use Rattle.networks_test.proofs.counting.first_leak.Statement.{statement}
 use Rattle.networks_test.proofs.counting.first_leak.Tie as tie
-use Rattle.networks_test.proofs.counting.first_leak.Reads as reads
-use Rattle.networks_test.proofs.counting.first_leak.Lts as lts
-use Rattle.networks_test.proofs.counting.leaks.Reads as leaks-reads
-use Rattle.std.proofs.num.wrapping_add_usize.Reads as wrapping-add-usize-reads
 
 abbrev Inv-loop : tie.InvT-loop
 Inv-loop ring table weights size j₀ j = Unit {0}
@@ -15,47 +9,36 @@ Inv-loop ring table weights size j₀ j = Unit {0}
 abbrev μ-loop : tie.MeasureT-loop
 μ-loop ring table weights size j₀ j = size - j
 
--- src/counting.rt:134:5
 loop-holds : tie.Need-loop-holds Inv-loop μ-loop
 loop-holds c = search needs
 
--- src/counting.rt:135:13
 wrapping-add-usize-requires : tie.Need-wrapping-add-usize-requires Inv-loop μ-loop
 wrapping-add-usize-requires c κs = search needs
 
--- src/counting.rt:136:12
 leaks-requires : tie.Need-leaks-requires Inv-loop μ-loop
 leaks-requires c κs = search needs
 
--- src/counting.rt:137:13
 returns : tie.Need-returns Inv-loop μ-loop
 returns c = search needs
 
--- src/counting.rt:134:9
 add-j : tie.Need-add-j Inv-loop μ-loop
 add-j c = search needs
 
--- src/counting.rt:134:5
 loop-less : tie.Need-loop-less Inv-loop μ-loop
 loop-less c = search needs
 
--- src/counting.rt:134:5
 loop-again : tie.Need-loop-again Inv-loop μ-loop
 loop-again c = search needs
 
--- src/counting.rt:140:8
 leaks-requires-2 : tie.Need-leaks-requires-2 Inv-loop μ-loop
 leaks-requires-2 c κs = search needs
 
--- src/counting.rt:141:9
 returns-2 : tie.Need-returns-2 Inv-loop μ-loop
 returns-2 c = search needs
 
--- src/counting.rt:143:5
 wrapping-add-usize-requires-2 : tie.Need-wrapping-add-usize-requires-2 Inv-loop μ-loop
 wrapping-add-usize-requires-2 c κs = search needs
 
--- src/counting.rt:132:1
 returns-3 : tie.Need-returns-3 Inv-loop μ-loop
 returns-3 c = search needs
 

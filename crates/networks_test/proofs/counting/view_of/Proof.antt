@@ -1,14 +1,7 @@
 use borrow.Author.Needs.{needs}
-use Prim.Native.Nat.{ℕ, _≤_, _<_, _+_, _*_, _-_}
-use lib.ListN.{length}
-use mathlib.Core.Path.{_≡_}
+use Prim.Native.Nat.{_-_}
 use Rattle.networks_test.proofs.counting.view_of.Statement.{statement}
 use Rattle.networks_test.proofs.counting.view_of.Tie as tie
-use Rattle.networks_test.proofs.counting.view_of.Reads as reads
-use Rattle.networks_test.proofs.counting.view_of.Lts as lts
-use Rattle.networks_test.proofs.network.heard.Reads as heard-reads
-use Rattle.testing.proofs.mul_add.Reads as mul-add-reads
-use Rattle.testing.proofs.wide.Reads as wide-reads
 
 abbrev Inv-loop : tie.InvT-loop
 Inv-loop ring table weights readings source observer size view₀ j₀ view j = Unit {0}
@@ -16,47 +9,36 @@ Inv-loop ring table weights readings source observer size view₀ j₀ view j = 
 abbrev μ-loop : tie.MeasureT-loop
 μ-loop ring table weights readings source observer size view₀ j₀ view j = size - j
 
--- src/counting.rt:55:13
 sub-heard : tie.Need-sub-heard Inv-loop μ-loop
 sub-heard c = search needs
 
--- src/counting.rt:49:9
 heard-requires : tie.Need-heard-requires Inv-loop μ-loop
 heard-requires c κs = search needs
 
--- src/counting.rt:49:9
 returns : tie.Need-returns Inv-loop μ-loop
 returns c = search needs
 
--- src/counting.rt:61:5
 loop-holds : tie.Need-loop-holds Inv-loop μ-loop
 loop-holds c = search needs
 
--- src/counting.rt:63:13
 heard-requires-2 : tie.Need-heard-requires-2 Inv-loop μ-loop
 heard-requires-2 c κs = search needs
 
--- src/counting.rt:65:13
 wide-requires : tie.Need-wide-requires Inv-loop μ-loop
 wide-requires c κs = search needs
 
--- src/counting.rt:62:9
 mul-add-requires : tie.Need-mul-add-requires Inv-loop μ-loop
 mul-add-requires c κs = search needs
 
--- src/counting.rt:61:9
 add-j : tie.Need-add-j Inv-loop μ-loop
 add-j c = search needs
 
--- src/counting.rt:61:5
 loop-less : tie.Need-loop-less Inv-loop μ-loop
 loop-less c = search needs
 
--- src/counting.rt:61:5
 loop-again : tie.Need-loop-again Inv-loop μ-loop
 loop-again c = search needs
 
--- src/counting.rt:40:1
 returns-2 : tie.Need-returns-2 Inv-loop μ-loop
 returns-2 c = search needs
 

@@ -1,14 +1,7 @@
 use borrow.Author.Needs.{needs}
-use Prim.Native.Nat.{ℕ, _≤_, _<_, _+_, _*_, _-_}
-use lib.ListN.{length}
-use mathlib.Core.Path.{_≡_}
+use Prim.Native.Nat.{_-_}
 use Rattle.networks_test.proofs.decodes.all_symbols.Statement.{statement}
 use Rattle.networks_test.proofs.decodes.all_symbols.Tie as tie
-use Rattle.networks_test.proofs.decodes.all_symbols.Reads as reads
-use Rattle.networks_test.proofs.decodes.all_symbols.Lts as lts
-use Rattle.networks_test.proofs.worlds.has.Reads as has-reads
-use Rattle.testing.proofs.wide.Reads as wide-reads
-use Rattle.testing.proofs.at.Reads as at-reads
 
 abbrev Inv-loop : tie.InvT-loop
 Inv-loop ring reported sums size j₀ j = Unit {0}
@@ -16,39 +9,30 @@ Inv-loop ring reported sums size j₀ j = Unit {0}
 abbrev μ-loop : tie.MeasureT-loop
 μ-loop ring reported sums size j₀ j = size - j
 
--- src/decodes.rt:88:5
 loop-holds : tie.Need-loop-holds Inv-loop μ-loop
 loop-holds c = search needs
 
--- src/decodes.rt:89:12
 has-requires : tie.Need-has-requires Inv-loop μ-loop
 has-requires c κs = search needs
 
--- src/decodes.rt:90:16
 at-requires : tie.Need-at-requires Inv-loop μ-loop
 at-requires c κs = search needs
 
--- src/decodes.rt:90:31
 wide-requires : tie.Need-wide-requires Inv-loop μ-loop
 wide-requires c κs = search needs
 
--- src/decodes.rt:91:17
 returns : tie.Need-returns Inv-loop μ-loop
 returns c = search needs
 
--- src/decodes.rt:88:9
 add-j : tie.Need-add-j Inv-loop μ-loop
 add-j c = search needs
 
--- src/decodes.rt:88:5
 loop-less : tie.Need-loop-less Inv-loop μ-loop
 loop-less c = search needs
 
--- src/decodes.rt:88:5
 loop-again : tie.Need-loop-again Inv-loop μ-loop
 loop-again c = search needs
 
--- src/decodes.rt:86:1
 returns-2 : tie.Need-returns-2 Inv-loop μ-loop
 returns-2 c = search needs
 

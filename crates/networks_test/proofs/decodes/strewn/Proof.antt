@@ -1,15 +1,7 @@
 use borrow.Author.Needs.{needs}
-use Prim.Native.Nat.{ℕ, _≤_, _<_, _+_, _*_, _-_}
-use lib.ListN.{length}
-use mathlib.Core.Path.{_≡_}
+use Prim.Native.Nat.{_≤_, _-_}
 use Rattle.networks_test.proofs.decodes.strewn.Statement.{statement}
 use Rattle.networks_test.proofs.decodes.strewn.Tie as tie
-use Rattle.networks_test.proofs.decodes.strewn.Reads as reads
-use Rattle.networks_test.proofs.decodes.strewn.Lts as lts
-use Rattle.networks_test.proofs.worlds.has.Reads as has-reads
-use Rattle.std.proofs.num.wrapping_add_usize.Reads as wrapping-add-usize-reads
-use Rattle.testing.proofs.narrow.Reads as narrow-reads
-use Rattle.testing.proofs.state.Reads as state-reads
 
 abbrev Inv-loop : tie.InvT-loop
 Inv-loop x reported t₀ j₀ t j = j ≤ 9
@@ -17,47 +9,36 @@ Inv-loop x reported t₀ j₀ t j = j ≤ 9
 abbrev μ-loop : tie.MeasureT-loop
 μ-loop x reported t₀ j₀ t j = 9 - j
 
--- src/decodes.rt:101:5
 loop-holds : tie.Need-loop-holds Inv-loop μ-loop
 loop-holds c = search needs
 
--- src/decodes.rt:102:13
 has-requires : tie.Need-has-requires Inv-loop μ-loop
 has-requires c κs = search needs
 
--- src/decodes.rt:103:36
 wrapping-add-usize-requires : tie.Need-wrapping-add-usize-requires Inv-loop μ-loop
 wrapping-add-usize-requires c κs = search needs
 
--- src/decodes.rt:103:27
 state-requires : tie.Need-state-requires Inv-loop μ-loop
 state-requires c κs = search needs
 
--- src/decodes.rt:103:20
 narrow-requires : tie.Need-narrow-requires Inv-loop μ-loop
 narrow-requires c κs = search needs
 
--- src/decodes.rt:103:13
 mul-t : tie.Need-mul-t Inv-loop μ-loop
 mul-t c = search needs
 
--- src/decodes.rt:103:13
 array-write-t : tie.Need-array-write-t Inv-loop μ-loop
 array-write-t c = search needs
 
--- src/decodes.rt:101:9
 add-j : tie.Need-add-j Inv-loop μ-loop
 add-j c = search needs
 
--- src/decodes.rt:101:5
 loop-less : tie.Need-loop-less Inv-loop μ-loop
 loop-less c = search needs
 
--- src/decodes.rt:101:5
 loop-again : tie.Need-loop-again Inv-loop μ-loop
 loop-again c = search needs
 
--- src/decodes.rt:99:1
 returns : tie.Need-returns Inv-loop μ-loop
 returns c = search needs
 

@@ -1,13 +1,7 @@
 use borrow.Author.Needs.{needs}
-use Prim.Native.Nat.{ℕ, _≤_, _<_, _+_, _*_, _-_}
-use lib.ListN.{length}
-use mathlib.Core.Path.{_≡_}
+use Prim.Native.Nat.{_≤_, _-_}
 use Rattle.networks_test.proofs.decodes.totals_of.Statement.{statement}
 use Rattle.networks_test.proofs.decodes.totals_of.Tie as tie
-use Rattle.networks_test.proofs.decodes.totals_of.Reads as reads
-use Rattle.networks_test.proofs.decodes.totals_of.Lts as lts
-use Rattle.networks_test.proofs.network.total_of.Reads as total-of-reads
-use Rattle.testing.proofs.narrow.Reads as narrow-reads
 
 abbrev Inv-loop : tie.InvT-loop
 Inv-loop ring readings t₀ s₀ t s = s ≤ 5
@@ -15,39 +9,30 @@ Inv-loop ring readings t₀ s₀ t s = s ≤ 5
 abbrev μ-loop : tie.MeasureT-loop
 μ-loop ring readings t₀ s₀ t s = 5 - s
 
--- src/decodes.rt:177:5
 loop-holds : tie.Need-loop-holds Inv-loop μ-loop
 loop-holds c = search needs
 
--- src/decodes.rt:178:23
 total-of-requires : tie.Need-total-of-requires Inv-loop μ-loop
 total-of-requires c κs = search needs
 
--- src/decodes.rt:178:16
 narrow-requires : tie.Need-narrow-requires Inv-loop μ-loop
 narrow-requires c κs = search needs
 
--- src/decodes.rt:178:9
 mul-t : tie.Need-mul-t Inv-loop μ-loop
 mul-t c = search needs
 
--- src/decodes.rt:178:9
 array-write-t : tie.Need-array-write-t Inv-loop μ-loop
 array-write-t c = search needs
 
--- src/decodes.rt:177:9
 add-s : tie.Need-add-s Inv-loop μ-loop
 add-s c = search needs
 
--- src/decodes.rt:177:5
 loop-less : tie.Need-loop-less Inv-loop μ-loop
 loop-less c = search needs
 
--- src/decodes.rt:177:5
 loop-again : tie.Need-loop-again Inv-loop μ-loop
 loop-again c = search needs
 
--- src/decodes.rt:175:1
 returns : tie.Need-returns Inv-loop μ-loop
 returns c = search needs
 
