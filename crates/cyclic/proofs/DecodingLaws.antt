@@ -9,11 +9,11 @@ use mathlib.Core.List.{List, [], _∷_, _++_, map}
 use native.Mathlib.Nat.{zero-mod, add-zero, zero-add, suc-add}
 use native.Mathlib.Omega.{arith}
 use lib.ListN.{length, take, drop, length-drop, take-append-drop}
-use lib.Seq.{length-take-le}
-use lib.Dec.{T}
+use lib.Seq.{length-take-le, getD-drop}
+use lib.Dec.{T, T-not}
 use Rattle.lists.specs.Bits.{hasBit}
 use Rattle.residues.proofs.PrimeLaws.{prime-pos}
-use Rattle.lists.proofs.Searches.{T-and, all-at, all-made, not-all}
+use Rattle.lists.proofs.Searches.{T-and, and-T, true→T, not-T→false, all-at, all-made, not-all}
 use Rattle.lists.specs.Lists.{at, All, zeros, picked}
 use Rattle.matrices.specs.Linear.{Vector, add, combN, comb}
 use Rattle.matrices.specs.Rank.{sameList, inSpan}
@@ -88,7 +88,7 @@ module _ (C : Network) where
       ap (λ (S : List (List ℕ)). at (comb (C .q) 1 (coefficients C reported s) S) 0)
       (picked-cong (C .size) (kept C reported) (λ j. at Y j ∷ []) (λ j. at Y′ j ∷ [])
       (λ j l k. ap (λ (y : ℕ). y ∷ [])
-      (h j l (T-and (hasBit reported j) (not (inSpan (C .q) (columns C) (picked j (hasBit reported) (λ i. relayRow C i ∷ [])) (relayRow C j))) k .0))))
+      (h j l (T-and (hasBit reported j) _ k .0))))
 
   -- a combination of the kept rows is what the search finds
   pub combination-found : (reported s : ℕ) → T (inSpan (C .q) (columns C) (keptRows C reported) (totalRow C s))
@@ -116,10 +116,23 @@ module _ (C : Network) (ok : Sound C) (reported : ℕ) where
   abbrev pub arrivedRows : List (List ℕ)
   arrivedRows = picked (C .size) (hasBit reported) (λ j. relayRow C j ∷ [])
 
-  pub kept-arrived : (j : ℕ) → T (kept C reported j) → T (hasBit reported j)
+  -- and of those lower than relay j
+  abbrev pub lowerRows : ℕ → List (List ℕ)
+  lowerRows j = picked j (hasBit reported) (λ i. relayRow C i ∷ [])
+
+  -- a relay is kept just where it has arrived and its row is no combination of those
+  pub kept-iff : (j : ℕ) → (T (hasBit reported j) × (¬ (InSpan (C .q) (columns C) (lowerRows j) (relayRow C j)))) ↔ T (kept C reported j)
   unfolding kept
-  kept-arrived j t =
-      T-and (hasBit reported j) (not (inSpan (C .q) (columns C) (picked j (hasBit reported) (λ i. relayRow C i ∷ [])) (relayRow C j))) t .0
+  kept-iff j =
+      let span = in-span-iff (C .q) (columns C) pos (lowerRows j) (relayRow C j)
+      (before-vectors (C .q) (ok .prime) (columns C) (hasBit reported) (relayRow C) (relay-row-vector C ok) j) in
+      let test : Bool = inSpan (C .q) (columns C) (lowerRows j) (relayRow C j) in (
+        (λ x. and-T (hasBit reported j) (not test) (x .0) (true→T (not test) (ap not (not-T→false test (λ t. x .1 (span .0 t)))))),
+        (λ t. let (a, b) = T-and (hasBit reported j) (not test) t in (a, λ w. T-not test b (span .1 w))),
+      )
+
+  pub kept-arrived : (j : ℕ) → T (kept C reported j) → T (hasBit reported j)
+  kept-arrived j t = kept-iff j .1 t .0
 
   pub kept-vectors : All (Vector (C .q) (columns C)) (keptRows C reported)
   unfolding keptRows kept
@@ -205,6 +218,7 @@ module _ (C : Network) (ok : Sound C) (reported : ℕ) where
     pub W : List ℕ
     pub N : List ℕ
     pub W-in : Vector (C .q) (symbols C) W
+    pub N-in : Vector (C .q) (C .rate) N
     pub same : (j : ℕ) → j < C .size → T (hasBit reported j) → relaySum C W N j ≡ relaySum C (zeros (symbols C)) (zeros (C .rate)) j
     pub other : total C W s ≡ 1
     pub none : total C (zeros (symbols C)) s ≡ 0
@@ -238,6 +252,13 @@ module _ (C : Network) (ok : Sound C) (reported : ℕ) where
           go zero = ap zeros (sym (zero-add b))
           go (suc a) = ap (λ (l : List ℕ). 0 ∷ l) (go a) ∙ ap zeros (sym (suc-add a b))
 
+  vector-drop : (M : List ℕ) → Vector (C .q) (columns C) M → Vector (C .q) (C .rate) (drop (symbols C) M)
+  vector-drop M v =
+      record {
+        size = length-drop (symbols C) M ∙ omega (arith, v .size);
+        small = λ i l. subst (λ (z : ℕ). z < C .q) (sym (getD-drop (symbols C) M i 0)) (v .small (symbols C + i) (omega arith));
+      }
+
   twins-of : (s : ℕ) → s < C .parts → Separated (C .q) (columns C) arrivedRows (totalRow C s) → Twins s
   twins-of s b m =
       let W : List ℕ = take (symbols C) (m .M) in
@@ -247,6 +268,7 @@ module _ (C : Network) (ok : Sound C) (reported : ℕ) where
         W = W;
         N = N;
         W-in = vector-take (C .q) (symbols C) (C .rate) (m .M) (m .valid);
+        N-in = vector-drop (m .M) (m .valid);
         same = λ j l t.
             sym (row-shows C (ok .few) W N j l)
             ∙ ap (dot (C .q) (relayRow C j)) all

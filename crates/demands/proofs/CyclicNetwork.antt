@@ -2,23 +2,30 @@
 use Prim.Native.Nat.{ℕ, zero, suc, _-_, _<_}
 use mathlib.Core.Path.{_≡_, refl, sym, ap, _∙_}
 use mathlib.Core.Logic.{_↔_}
-use mathlib.Core.List.{List}
+use mathlib.Core.List.{List, [], _∷_}
 use native.Mathlib.Omega.{arith}
 use lib.Dec.{T}
+use lib.ListN.{length}
 use Rattle.refusals.specs.declared.Code.{Code}
-use Rattle.refusals.specs.Codes.{firstOf}
-use Rattle.lists.specs.Lists.{zeros}
+use Rattle.refusals.specs.Codes.{accepted, firstOf}
+use Rattle.refusals.proofs.CodeLaws.{accepted-takes}
+use Rattle.lists.specs.Bits.{hasBit}
+use Rattle.lists.specs.Lists.{at, zeros, tab, picked}
 use Rattle.lists.proofs.Searches.{all-at, all-made, not-all, T-decide}
+use Rattle.lists.proofs.ListLaws.{at-tab, length-tab}
 use Rattle.residues.proofs.PrimeLaws.{prime-pos}
+use Rattle.matrices.specs.Linear.{Vector, comb}
 use Rattle.matrices.specs.Rank.{inSpan}
 use Rattle.matrices.proofs.Spans.{in-span-iff}
-use Rattle.cyclic.specs.Network.{linkOf, Network, symbols, relayOf}
-use Rattle.cyclic.specs.Decoding.{columns, totalRow, keptRows, decodable}
+use Rattle.matrices.proofs.Vectors.{vector-zeros}
+use Rattle.cyclic.specs.Network.{linkOf, Network, symbols, relayOf, relaySum, total}
+use Rattle.cyclic.specs.Decoding.{columns, totalRow, kept, keptRows, decodable, decoded}
 use Rattle.cyclic.proofs.NetworkForms.{linked-iff, links-meet, first-link, next-link}
-use Rattle.cyclic.proofs.NetworkVerdicts.{equal-numbers}
-use Rattle.cyclic.proofs.DecodingLaws.{combination-found, combination-in, combination-only, kept-vectors, leaving-out, undecodable-twins, more-arrived}
+use Rattle.cyclic.proofs.NetworkVerdicts.{Sound, equal-numbers}
+use Rattle.cyclic.proofs.DecodingLaws.{combination-found, combination-in, combination-only, coefficients-only, kept-iff, kept-vectors, leaving-out}
+use Rattle.cyclic.proofs.DecodingLaws.{decoded-true, undecodable-twins, more-arrived}
 use Rattle.networks.specs.declared.Ring.{Ring}
-use Rattle.networks.specs.Rings.{networkOf, decodeChecks}
+use Rattle.networks.specs.Rings.{networkOf, arrivalChecks, decodeChecks, decodedAfter}
 use Rattle.networks.proofs.RingLaws.{sound}
 use Rattle.networks.proofs.CheckLaws.{ready-known, arrivals-known}
 use Rattle.networks.proofs.VetLaws.{vet-numbers, no-six, accepted-passes, accepted-quiet, refused-iff, named-first, first-named}
@@ -26,7 +33,8 @@ use Rattle.networks.proofs.RoundTrip.{upload-taken, upload-meant, sum-taken, su
 use Rattle.networks.proofs.RoundTrip.{decodable-accepted, undecodable-refused, refused-undecodable, totals-written, arrivals-taken}
 use Rattle.demands.specs.CyclicNetwork.{relayBefore, LinksGoRound, LinkedIff, LinksMeet, InOrder, NoSix, WrongPattern, NetworkHides, RefusedIffLeaks}
 use Rattle.demands.specs.CyclicNetwork.{NamesFirstObserver, UploadsAre, SumsAre, Combination, LooksOnlyAtArrived, GivesTotals, WritesTotals}
-use Rattle.demands.specs.CyclicNetwork.{OneCombination, LeavingOut, RefusedIffNone, NobodyCould, MoreArrive}
+use Rattle.demands.specs.CyclicNetwork.{WritesCombination, OneCombination, LeavesOutDependent, LeavingOut, RefusedIffNone, Undecided}
+use Rattle.demands.specs.CyclicNetwork.{NobodyCould, MoreArrive}
 
 module _ (C : Network) where
   pub links-go-round : LinksGoRound C
@@ -98,9 +106,34 @@ module _ (R : Ring) (K A : List ℕ) (reported : ℕ) where
       let e = decodable-accepted R K A reported Y out (arrivals-taken R K A reported passed few W N Y out (a .many) room (a .sums)) (all-there c) in
       (e, writes-totals W N Y out e a)
 
+  pub writes-combination : WritesCombination R K A reported
+  unfolding decoded
+  writes-combination Y out e c =
+      let C : Network = networkOf R K A in
+      let t = all-there c in
+      let a = decodable-accepted R K A reported Y out e t in
+      let w : decodedAfter R K A reported Y out ≡ tab (R .parts) (decoded C reported Y)
+      = accepted-takes (firstOf (decodeChecks R K A reported Y out)) (tab (R .parts) (decoded C reported Y)) out a in (
+        a,
+        ap length w ∙ length-tab (R .parts) (decoded C reported Y),
+        λ s b.
+            ap (λ (l : List ℕ). at l s) w
+            ∙ at-tab (R .parts) (decoded C reported Y) s b
+            ∙ ap (λ (cs : List ℕ). at (comb (R .q) 1 cs (picked (R .size) (kept C reported) (λ j. (at Y j ∷ []) ∷ []))) 0)
+            (sym (coefficients-only C (sound R K A (arrivals-known R K A reported Y out e .ready)) reported t s b (c s b .with) (c s b .valid)
+            (c s b .makes))),
+      )
+
   pub one-combination : OneCombination R K A reported
   one-combination passed s c d =
       combination-only (networkOf R K A) (sound R K A (ready-known R K A passed)) reported s (c .with) (d .with) (c .valid) (d .valid) (c .makes) (d .makes)
+
+  pub leaves-out-dependent : LeavesOutDependent R K A reported
+  leaves-out-dependent passed j b =
+      let iff = kept-iff (networkOf R K A) (sound R K A (ready-known R K A passed)) reported j in (
+        (λ t. let (there, none) = iff .1 t in (there, λ x. none (record { coefficients = x .0; one-each = x .1; makes = x .2 }))),
+        (λ x. iff .0 (x .0, λ w. x .1 (w .coefficients, w .one-each, w .makes))),
+      )
 
   pub leaving-out-loses-nothing : LeavingOut R K A reported
   leaving-out-loses-nothing passed s b =
@@ -132,10 +165,43 @@ module _ (R : Ring) (K A : List ℕ) (reported : ℕ) where
           (s, b, λ c. none (in-span s .1 c))
 
   pub nobody-could : NobodyCould R K A reported
-  nobody-could Y out n =
-      let (e, f) = refused-undecodable R K A reported Y out n in
-      let (s, b, t) = undecodable-twins (networkOf R K A) (sound R K A (arrivals-known R K A reported Y out e .ready)) reported f in
-      (t .W, t .N, zeros (symbols (networkOf R K A)), zeros (R .rate), s, b, t .same, λ z. omega (arith, t .other, t .none, z))
+  nobody-could Y out = (
+    (λ n. let (e, f) = refused-undecodable R K A reported Y out n in (e, twins (known e) f)),
+    (λ x. ap (λ (c : Code). c .number) (undecodable-refused R K A reported Y out (x .0) (never (known (x .0)) (x .1)))),
+  )
+    where
+      C : Network
+      C = networkOf R K A
+
+      known : accepted ≡ firstOf (arrivalChecks R K A reported Y out) → Sound C
+      known e = sound R K A (arrivals-known R K A reported Y out e .ready)
+
+      twins : Sound C → ¬ (T (decodable C reported)) → Undecided C reported
+      twins ok f =
+          let (s, b, t) = undecodable-twins C ok reported f in
+          let none : (m : ℕ) → Vector (R .q) m (zeros m) = λ m. vector-zeros (R .q) m (prime-pos (ok .prime)) in
+          record {
+            W = t .W;
+            N = t .N;
+            W′ = zeros (symbols C);
+            N′ = zeros (R .rate);
+            readings = (t .W-in, none (symbols C));
+            sources = (t .N-in, none (R .rate));
+            same = t .same;
+            s = s;
+            one = b;
+            other = λ z. omega (arith, t .other, t .none, z);
+          }
+
+      never : Sound C → Undecided C reported → ¬ (T (decodable C reported))
+      never ok u t =
+          let sums : List ℕ = tab (R .size) (relaySum C (u .W) (u .N)) in
+          let gives : (W N : List ℕ) → ((j : ℕ) → j < R .size → T (hasBit reported j) → at sums j ≡ relaySum C W N j)
+          → decoded C reported sums (u .s) ≡ total C W (u .s)
+          = λ W N h. decoded-true C ok reported t W N sums h (u .s) (u .one) in
+          u .other
+          (sym (gives (u .W) (u .N) (λ j l h. at-tab (R .size) (relaySum C (u .W) (u .N)) j l))
+          ∙ gives (u .W′) (u .N′) (λ j l h. at-tab (R .size) (relaySum C (u .W) (u .N)) j l ∙ u .same j l h))
 
   pub more-arrive : MoreArrive R K A reported
   more-arrive more h Y Y′ out e e′ =

@@ -16,7 +16,7 @@ use Rattle.matrices.specs.Linear.{Vector, comb}
 use Rattle.secrecy.specs.Leaks.{keysShowing}
 use Rattle.cyclic.specs.Network.{Network, symbols, relayOf, heard, linkOf, linked, reading, key, upload, relaySum, total, relayView, view}
 use Rattle.cyclic.specs.NetworkLeaks.{Agrees, ObserverLeak}
-use Rattle.cyclic.specs.Decoding.{columns, relayRow, totalRow, keptRows}
+use Rattle.cyclic.specs.Decoding.{columns, relayRow, totalRow, kept, keptRows}
 use Rattle.networks.specs.declared.Ring.{Ring}
 use Rattle.networks.specs.Rings.{networkOf, countsFit, patternFits, networkChecks, vetChecks, uploadChecks, uploaded, sumChecks, summed}
 use Rattle.networks.specs.Rings.{arrivalChecks, decodeChecks, decodedAfter}
@@ -138,6 +138,19 @@ pub record Arrived (C : Network) (reported : ℕ) (W N Y : List ℕ) : Type 0 wh
   pub many : length Y ≡ C .size
   pub sums : (j : ℕ) → j < C .size → T (hasBit reported j) → at Y j ≡ relaySum C W N j
 
+-- two sets of readings and source keys have the same sums at all relays that have arrived, and differ in total symbol s
+pub record Undecided (C : Network) (reported : ℕ) : Type 0 where
+  pub W : List ℕ
+  pub N : List ℕ
+  pub W′ : List ℕ
+  pub N′ : List ℕ
+  pub readings : Vector (C .q) (symbols C) W × Vector (C .q) (symbols C) W′
+  pub sources : Vector (C .q) (C .rate) N × Vector (C .q) (C .rate) N′
+  pub same : (j : ℕ) → j < C .size → T (hasBit reported j) → relaySum C W N j ≡ relaySum C W′ N′ j
+  pub s : ℕ
+  pub one : s < C .parts
+  pub other : total C W s ≢ total C W′ s
+
 module _ (R : Ring) (K A : List ℕ) (reported : ℕ) where
   -- "The desk gets a roll of arrived gateways and K sums, and looks only at the arrived.": other numbers in the places of the others change neither the answer
   -- nor the buffer
@@ -161,12 +174,31 @@ module _ (R : Ring) (K A : List ℕ) (reported : ℕ) where
       (W N Y out : List ℕ) → accepted ≡ firstOf (decodeChecks R K A reported Y out) → Arrived (networkOf R K A) reported W N Y
       → decodedAfter R K A reported Y out ≡ tab (R .parts) (total (networkOf R K A) W)
 
+  -- "gives all n total symbols when each is a combination of the rest": whatever symbols have arrived, what it writes for total symbol s is the combination
+  -- of the kept relays' sums that makes of their rows the row of that total
+  abbrev pub WritesCombination : Type 0
+  WritesCombination =
+      (Y out : List ℕ) → accepted ≡ firstOf (arrivalChecks R K A reported Y out) → (c : (s : ℕ) → s < R .parts → Combination (networkOf R K A) reported s)
+      → (let sums : List (List ℕ) = picked (R .size) (kept (networkOf R K A) reported) (λ j. (at Y j ∷ []) ∷ []) in
+      (accepted ≡ firstOf (decodeChecks R K A reported Y out)) × (length (decodedAfter R K A reported Y out) ≡ R .parts)
+      × ((s : ℕ) (b : s < R .parts) → at (decodedAfter R K A reported Y out) s ≡ at (comb (R .q) 1 (c s b .with) sums) 0))
+
   -- the combination is the only one
   abbrev pub OneCombination : Type 0
   OneCombination =
       accepted ≡ firstOf (networkChecks R K A) → (s : ℕ) (c d : Combination (networkOf R K A) reported s) → c .with ≡ d .with
 
-  -- "It leaves out each that depends on those of lower arrived gateways": which leaves nothing out that could be had from all that arrived
+  -- "It leaves out each that depends on those of lower arrived gateways": relay j is kept just where it has arrived and no coefficients, one for each lower
+  -- arrived relay, make its row of theirs
+  abbrev pub LeavesOutDependent : Type 0
+  LeavesOutDependent =
+      accepted ≡ firstOf (networkChecks R K A) → (j : ℕ) → j < R .size
+      → (let rows : List (List ℕ) = picked j (hasBit reported) (λ i. relayRow (networkOf R K A) i ∷ []) in
+      T (kept (networkOf R K A) reported j)
+      ↔ (T (hasBit reported j)
+      × (¬ ((cs : List ℕ) × (length cs ≡ length rows) × (comb (R .q) (columns (networkOf R K A)) cs rows ≡ relayRow (networkOf R K A) j)))))
+
+  -- which leaves nothing out that could be had from all that arrived
   abbrev pub LeavingOut : Type 0
   LeavingOut =
       accepted ≡ firstOf (networkChecks R K A) → (s : ℕ) → s < R .parts
@@ -181,13 +213,12 @@ module _ (R : Ring) (K A : List ℕ) (reported : ℕ) where
       → _≡_ {A = ℕ} (firstOf (decodeChecks R K A reported Y out) .number) 23
       ↔ ((s : ℕ) × (s < R .parts) × (¬ (Combination (networkOf R K A) reported s)))
 
-  -- and then nobody could: two sets of readings and source keys have the same sums at all that arrived, and different totals
+  -- and exactly where nobody could
   abbrev pub NobodyCould : Type 0
   NobodyCould =
-      (Y out : List ℕ) → _≡_ {A = ℕ} (firstOf (decodeChecks R K A reported Y out) .number) 23
-      → (W : List ℕ) × (N : List ℕ) × (W′ : List ℕ) × (N′ : List ℕ) × (s : ℕ) × (s < R .parts)
-      × ((j : ℕ) → j < R .size → T (hasBit reported j) → relaySum (networkOf R K A) W N j ≡ relaySum (networkOf R K A) W′ N′ j)
-      × (total (networkOf R K A) W s ≢ total (networkOf R K A) W′ s)
+      (Y out : List ℕ)
+      → _≡_ {A = ℕ} (firstOf (decodeChecks R K A reported Y out) .number) 23
+      ↔ ((accepted ≡ firstOf (arrivalChecks R K A reported Y out)) × Undecided (networkOf R K A) reported)
 
   -- more relays arriving never turns totals into 23
   abbrev pub MoreArrive : Type 0
