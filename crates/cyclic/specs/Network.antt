@@ -1,6 +1,7 @@
 -- The cyclic network: as many relays (gateways) as users (meters), each user on several relays. Document 02, Q-13: "meter k speaks to gateways k, k − 1
--- and so on, d of them, wrapping from 1 to K." Users, relays, links and symbols count from 0 here; an observer is 0 for the server (desk), j for relay j.
--- There is one position: readings stand user by user, `parts` symbols each, and a source key has `rate` symbols.
+-- and so on, d of them, wrapping from 1 to K." Users, relays, links and symbols count from 0 here; observer 0 is the server (desk),
+-- and observer j + 1 is relay j, the papers' gateway j + 1. There is one position: readings stand user by user, `parts` symbols each, and a source key has
+-- `rate` symbols.
 use Prim.Native.Nat.{ℕ, zero, suc, _+_, _-_, _*_, _%_}
 use mathlib.Core.Bool.{Bool}
 use mathlib.Core.List.{List}
