@@ -248,7 +248,8 @@ fn check_lent(
     out: &[Symbol],
 ) -> Verdict
     requires { ⌜ Counted ring ⌝ }
-    ensures { λ r. ⌜ verdictCode r ≡ firstOf (symbolChecks (ring .q) (lentFits ring (now (table .entry)) (now (weights .entry)) (now (sums .entry)) (now (out .entry)))
+    ensures { λ r. ⌜ verdictCode r ≡ firstOf (symbolChecks (ring .q)
+        (lentFits ring (now (table .entry)) (now (weights .entry)) (now (sums .entry)) (now (out .entry)))
         (lentBelow ring (now (table .entry)) (now (weights .entry)) reported (now (sums .entry)))) ⌝ }
 {
     if !decode_lengths(ring, table, weights, sums, out) {
@@ -270,7 +271,8 @@ fn check_arrivals(
     sums: &[Symbol],
     out: &[Symbol],
 ) -> Verdict
-    ensures { λ r. ⌜ verdictCode r ≡ firstOf (arrivalChecks ring (now (table .entry)) (now (weights .entry)) reported (now (sums .entry)) (now (out .entry))) ⌝ }
+    ensures { λ r. ⌜ verdictCode r
+        ≡ firstOf (arrivalChecks ring (now (table .entry)) (now (weights .entry)) reported (now (sums .entry)) (now (out .entry))) ⌝ }
 {
     let counts = check_counts(ring);
     if !counts.is_accepted() {
@@ -295,7 +297,8 @@ pub fn decode(
     sums: &[Symbol],
     out: &mut [Symbol],
 ) -> Verdict
-    ensures code { λ r. ⌜ verdictCode r ≡ firstOf (decodeChecks ring (now (table .entry)) (now (weights .entry)) reported (now (sums .entry)) (now (out .entry))) ⌝ }
+    ensures code { λ r. ⌜ verdictCode r
+        ≡ firstOf (decodeChecks ring (now (table .entry)) (now (weights .entry)) reported (now (sums .entry)) (now (out .entry))) ⌝ }
     ensures out { λ _. ⌜ now (out .exit) ≡ decodedAfter ring (now (table .entry)) (now (weights .entry)) reported (now (sums .entry)) (now (out .entry)) ⌝ }
 {
     let verdict = check_arrivals(ring, table, weights, reported, sums, out);

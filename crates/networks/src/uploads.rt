@@ -72,7 +72,8 @@ fn upload_below(q: Symbol, weights: &[Symbol], reading: &[Symbol], key: Symbol) 
 // Whether user and relay, counted from 1, are there and linked.
 fn are_linked(ring: Ring, user: usize, relay: usize) -> bool
     requires { ⌜ Counted ring ⌝ }
-    ensures { λ r. ⌜ r ≡ (leb 1 user && leb user (ring .size) && leb 1 relay && leb relay (ring .size) && linked (networkOf ring [] []) (user - 1) (relay - 1)) ⌝ }
+    ensures { λ r. ⌜ r ≡ (leb 1 user && leb user (ring .size) && leb 1 relay && leb relay (ring .size)
+        && linked (networkOf ring [] []) (user - 1) (relay - 1)) ⌝ }
 {
     if user < 1 {
         return false;

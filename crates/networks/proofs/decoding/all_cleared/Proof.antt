@@ -25,7 +25,8 @@ Inv-loop n cols table s₀ s = (s ≤ n) × (allTo s (test cols table) ≡ true)
 abbrev μ-loop : tie.MeasureT-loop
 μ-loop n cols table s₀ s = n - s
 
-ends : (c : tie.In-loop Inv-loop μ-loop) → c .before .loop .s * c .before .before .before .args .cols + c .before .before .before .args .cols ≤ length (c .before .before .before .args .table .now)
+ends : (c : tie.In-loop Inv-loop μ-loop)
+    → c .before .loop .s * c .before .before .before .args .cols + c .before .before .before .args .cols ≤ length (c .before .before .before .args .table .now)
 ends c = let s = c .before .before .before in row-ends (s .args .n) (s .args .cols) (c .before .loop .s) _ (c .loop-test .taken) (s .pre .2)
 
 few : (c : tie.In-loop Inv-loop μ-loop) → c .before .loop .s * c .before .before .before .args .cols + c .before .before .before .args .cols ≤ 2304
@@ -68,7 +69,8 @@ returns c =
     let a = c .before .before .before .before .before .before .args in
     let l = c .before .before .before .before .loop in
     sym (all-fails (test (a .cols) (a .table .now)) (l .s) (a .n) (c .before .before .before .loop-test .taken)
-    (cleared-is (a .cols) (rowOf (a .cols) (a .table .now) (l .s)) (length-part (a .cols) (l .s * a .cols) (a .table .now) (ends (c .before .before .before))) false
+    (cleared-is (a .cols) (rowOf (a .cols) (a .table .now) (l .s))
+    (length-part (a .cols) (l .s * a .cols) (a .table .now) (ends (c .before .before .before))) false
     (sym (not-true _ (c .if1 .taken)) ∙ c .before .all-below .ensures ∙ ap (allBelow 1) (part-row (a .cols) (l .s) (a .table .now)))))
 
 add-s : tie.Need-add-s Inv-loop μ-loop
@@ -84,8 +86,9 @@ loop-again c =
     let l = c .before .before .before .before .loop in (
       omega (arith, c .before .before .before .loop-test .taken),
       all-next (test (a .cols) (a .table .now)) (l .s) (l .inv .1)
-          (cleared-is (a .cols) (rowOf (a .cols) (a .table .now) (l .s)) (length-part (a .cols) (l .s * a .cols) (a .table .now) (ends (c .before .before .before)))
-          true (sym (not-false _ (c .if1 .left)) ∙ c .before .all-below .ensures ∙ ap (allBelow 1) (part-row (a .cols) (l .s) (a .table .now)))),
+          (cleared-is (a .cols) (rowOf (a .cols) (a .table .now) (l .s))
+          (length-part (a .cols) (l .s * a .cols) (a .table .now) (ends (c .before .before .before))) true
+          (sym (not-false _ (c .if1 .left)) ∙ c .before .all-below .ensures ∙ ap (allBelow 1) (part-row (a .cols) (l .s) (a .table .now)))),
     )
 
 returns-2 : tie.Need-returns-2 Inv-loop μ-loop
