@@ -1,4 +1,4 @@
-// Decoding: of tiny networks by a search through all readings and source keys, of networks of every size by ranks and by the readings themselves.
+// Decoding: of tiny networks by a search through all readings and source keys, of networks of every size by an elimination and by the readings themselves.
 use crate::counting::sets;
 use crate::drawn::FEW;
 use crate::drawn::few;
@@ -20,7 +20,7 @@ use crate::expected::rest_fits;
 use crate::network::heard;
 use crate::network::total_of;
 use crate::solving::COLUMNS;
-use crate::solving::rank;
+use crate::solving::decides;
 use crate::worlds;
 use crate::worlds::has;
 use arithmetic::Symbol;
@@ -172,31 +172,30 @@ fn sums_of(
     t
 }
 
-fn totals_of(ring: Ring, readings: &[Symbol]) -> [Symbol; TOTALS] {
+// Of the readings; where they cannot be had, what stands in the buffer before.
+fn totals_of(ring: Ring, readings: &[Symbol], found: bool) -> [Symbol; TOTALS] {
     let mut t = [BEFORE; TOTALS];
     for s in 0..TOTALS {
-        t[s] = narrow(total_of(ring, readings, s));
+        t[s] = narrow(over(found, total_of(ring, readings, s), wide(BEFORE)));
     }
     t
 }
 
-// Totals are the readings' own where the ranks are equal.
-fn ranked(
+// Totals are the readings' own where they can be had.
+fn solved(
     ring: Ring,
     x: usize,
     table: &[Symbol],
     weights: &[Symbol],
     reported: usize,
     sums: &[Symbol],
-    totals: &[Symbol],
+    readings: &[Symbol],
 ) -> usize {
-    let before = [BEFORE; TOTALS];
+    let found = decides(ring, table, weights, reported);
+    let expected = totals_of(ring, readings, found);
     let l = lengths_of(ring, x, false);
-    let without = rank(ring, table, weights, reported, false);
-    if rank(ring, table, weights, reported, true) == without {
-        return lent(ring, l, table, weights, reported, sums, 0, totals);
-    }
-    lent(ring, l, table, weights, reported, sums, 23, &before)
+    let number = over(found, 0, 23);
+    lent(ring, l, table, weights, reported, sums, number, &expected)
 }
 
 // A network of every size, with the sums of readings.
@@ -208,6 +207,5 @@ pub fn whole_decoded(case: usize) -> usize {
     let a = weights(ring, ring, x, false);
     let readings = drawn(ring, state(x, 31));
     let sums = strewn(x, reported, sums_of(ring, x, &t, &a, &readings));
-    let totals = totals_of(ring, &readings);
-    ranked(ring, x, &t, &a, reported, &sums, &totals)
+    solved(ring, x, &t, &a, reported, &sums, &readings)
 }

@@ -1,6 +1,7 @@
 // Holds the library networks to second implementations written another way: the vet to literal counts of source keys, decoding to a search through all
-// readings and source keys, and, of networks of every size, to ranks and to the readings' own totals. Writes how often each number was answered (0: nothing is
-// refused) where the two agree, and how often they differ: in the number, its details, or the buffer. A case is made of its number alone.
+// readings and source keys, and, of networks of every size, to an elimination of its own and to the readings' own totals. Writes how often each number was
+// answered (0: nothing is refused) where the two agree, and how often they differ: in the number, its details, or the buffer. A case is made of its number
+// alone.
 mod counting;
 mod decodes;
 mod drawn;

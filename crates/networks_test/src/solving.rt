@@ -1,24 +1,28 @@
-// Whether totals can be had of the sums that have arrived, by ranks: as many rows are independent with the totals' rows as without. A number of a row is the
-// sum that a relay has where one symbol is 1 and all others are 0.
+// Whether totals can be had of the sums that have arrived, by an elimination of its own: the rows of the relays that have arrived are gone through from the
+// last, and each is taken out of all rows by its last number that is not 0, crosswise and with no inverse. Totals can be had where nothing is left of their
+// rows. A number of a row is the sum that a relay has where one symbol is 1 and all others are 0.
 use crate::network::heard;
+use crate::network::plus;
 use crate::network::total_of;
 use crate::worlds::has;
 use arithmetic::Symbol;
-use matrices::Ranked;
 use networks::Ring;
-use std::num::wrapping_add_usize;
 use std::num::wrapping_sub_usize;
-use testing::clip;
+use testing::at;
+use testing::count_large;
+use testing::mul_add;
 use testing::narrow;
 use testing::over;
 use testing::product;
-use testing::quotient;
-use testing::residue;
+use testing::product_mod;
+use testing::wide;
 
-// The most columns, and the most numbers in all rows.
+// The most columns, the most rows, and the numbers of so many of them.
 pub const COLUMNS: usize = 48;
 
-const CELLS: usize = 576;
+const ROWS: usize = 12;
+
+const CELLS: usize = ROWS * COLUMNS;
 
 fn unit(c: usize) -> [Symbol; COLUMNS] {
     let mut t = [0 as Symbol; COLUMNS];
@@ -28,72 +32,69 @@ fn unit(c: usize) -> [Symbol; COLUMNS] {
     t
 }
 
-// Column c of the row of relay r, or of the total whose number is r less K.
-fn cell(ring: Ring, table: &[Symbol], weights: &[Symbol], r: usize, c: usize) -> usize {
-    let readings = unit(c);
-    let source = unit(wrapping_sub_usize(c, product(ring.size, ring.parts)));
-    if r < ring.size {
-        return heard(ring, table, weights, &readings, &source, r, false);
-    }
-    total_of(ring, &readings, wrapping_sub_usize(r, ring.size))
-}
-
-fn is_row(ring: Ring, reported: usize, totals: bool, r: usize) -> bool {
-    if r < ring.size {
-        return has(reported, r);
-    }
-    totals && r < wrapping_add_usize(ring.size, ring.parts)
-}
-
-// How many relays and totals below r have a row; as a search, the one whose row is number n.
-fn counted(ring: Ring, reported: usize, totals: bool, most: usize, n: usize) -> usize {
-    let mut many: usize = 0;
-    for r in 0..most {
-        if is_row(ring, reported, totals, r) {
-            if many == n {
-                return r;
-            }
-            many = wrapping_add_usize(many, 1);
-        }
-    }
-    many
-}
-
-// The rows of the relays that have arrived, one after the other, with those of the totals or without; so many numbers in all.
-fn rows_of(
+// Column c of row r: of total r, or, after the most totals, of a relay; 0 where there is no such total or the relay has not arrived.
+fn cell(
     ring: Ring,
     table: &[Symbol],
     weights: &[Symbol],
     reported: usize,
-    totals: bool,
-    end: usize,
-) -> [Symbol; CELLS] {
-    let cols = wrapping_add_usize(product(ring.size, ring.parts), ring.rate);
-    let all = wrapping_add_usize(ring.size, ring.parts);
+    r: usize,
+    c: usize,
+) -> usize {
+    let readings = unit(c);
+    let source = unit(wrapping_sub_usize(c, product(ring.size, ring.parts)));
+    if r < Ring::MAX_PARTS {
+        return over(r < ring.parts, total_of(ring, &readings, r), 0);
+    }
+    let j = r - Ring::MAX_PARTS;
+    let sum = heard(ring, table, weights, &readings, &source, j, false);
+    over(has(reported, j), sum, 0)
+}
+
+// The rows of all totals, and then those of the relays that have arrived.
+fn rows_of(ring: Ring, table: &[Symbol], weights: &[Symbol], reported: usize) -> [Symbol; CELLS] {
     let mut rows = [0 as Symbol; CELLS];
     for i in 0..CELLS {
-        if i < end {
-            let r = counted(ring, reported, totals, all, quotient(i, cols));
-            rows[i] = narrow(cell(ring, table, weights, r, residue(i, cols)));
-        }
+        rows[i] = narrow(cell(ring, table, weights, reported, i / COLUMNS, i % COLUMNS));
     }
     rows
 }
 
-pub fn rank(
-    ring: Ring,
-    table: &[Symbol],
-    weights: &[Symbol],
-    reported: usize,
-    totals: bool,
-) -> usize {
-    let cols = wrapping_add_usize(product(ring.size, ring.parts), ring.rate);
-    let all = wrapping_add_usize(ring.size, ring.parts);
-    let n = counted(ring, reported, totals, all, CELLS);
-    let rows = rows_of(ring, table, weights, reported, totals, product(n, cols));
-    let end = clip(product(n, cols), CELLS);
-    match matrices::rank(ring.q, n, cols, &rows[..end]) {
-        Ranked::Rank(k) => k,
-        Ranked::Refused(refusal) => CELLS,
+// The last column in which row j is not 0; the first where it is nothing but zeros.
+fn last_column(rows: &[Symbol], j: usize) -> usize {
+    let mut last: usize = 0;
+    for c in 0..COLUMNS {
+        if at(rows, mul_add(c, j, COLUMNS)) != 0 {
+            last = c;
+        }
     }
+    last
+}
+
+// Every row times the last number of row j that is not 0, less row j times the row's own number in that column. Where row j is nothing but zeros nothing
+// changes.
+fn cleared(q: usize, rows: [Symbol; CELLS], j: usize) -> [Symbol; CELLS] {
+    let column = last_column(&rows, j);
+    let found = at(&rows, mul_add(column, j, COLUMNS));
+    let times = over(found == 0, 1, found);
+    let mut out = [0 as Symbol; CELLS];
+    for i in 0..CELLS {
+        let own = at(&rows, mul_add(column, i / COLUMNS, COLUMNS));
+        let less = product_mod(q, own, at(&rows, mul_add(i % COLUMNS, j, COLUMNS)));
+        out[i] = narrow(plus(
+            q,
+            product_mod(q, times, at(&rows, i)),
+            wrapping_sub_usize(q, less),
+        ));
+    }
+    out
+}
+
+// A relay's row is 0 once it is taken out of itself, so that totals alone can be left.
+pub fn decides(ring: Ring, table: &[Symbol], weights: &[Symbol], reported: usize) -> bool {
+    let mut rows = rows_of(ring, table, weights, reported);
+    for i in 0..Ring::MAX_SIZE {
+        rows = cleared(wide(ring.q), rows, ROWS - 1 - i);
+    }
+    count_large(&rows, 1) == 0
 }

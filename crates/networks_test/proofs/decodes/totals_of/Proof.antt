@@ -4,16 +4,22 @@ use Rattle.networks_test.proofs.decodes.totals_of.Statement.{statement}
 use Rattle.networks_test.proofs.decodes.totals_of.Tie as tie
 
 abbrev Inv-loop : tie.InvT-loop
-Inv-loop ring readings t₀ s₀ t s = s ≤ 5
+Inv-loop ring readings found t₀ s₀ t s = s ≤ 5
 
 abbrev μ-loop : tie.MeasureT-loop
-μ-loop ring readings t₀ s₀ t s = 5 - s
+μ-loop ring readings found t₀ s₀ t s = 5 - s
 
 loop-holds : tie.Need-loop-holds Inv-loop μ-loop
 loop-holds c = search needs
 
 total-of-requires : tie.Need-total-of-requires Inv-loop μ-loop
 total-of-requires c κs = search needs
+
+wide-requires : tie.Need-wide-requires Inv-loop μ-loop
+wide-requires c κs = search needs
+
+over-requires : tie.Need-over-requires Inv-loop μ-loop
+over-requires c κs = search needs
 
 narrow-requires : tie.Need-narrow-requires Inv-loop μ-loop
 narrow-requires c κs = search needs
@@ -44,6 +50,8 @@ totals-of-spec =
     μ-loop
     loop-holds
     total-of-requires
+    wide-requires
+    over-requires
     narrow-requires
     mul-t
     array-write-t

@@ -4,31 +4,13 @@ use Rattle.networks_test.proofs.solving.rows_of.Statement.{statement}
 use Rattle.networks_test.proofs.solving.rows_of.Tie as tie
 
 abbrev Inv-loop : tie.InvT-loop
-Inv-loop ring table weights reported totals end cols all rows₀ i₀ rows i = i ≤ 576
+Inv-loop ring table weights reported rows₀ i₀ rows i = i ≤ 576
 
 abbrev μ-loop : tie.MeasureT-loop
-μ-loop ring table weights reported totals end cols all rows₀ i₀ rows i = 576 - i
-
-product-requires : tie.Need-product-requires Inv-loop μ-loop
-product-requires c κs = search needs
-
-wrapping-add-usize-requires : tie.Need-wrapping-add-usize-requires Inv-loop μ-loop
-wrapping-add-usize-requires c κs = search needs
-
-wrapping-add-usize-requires-2 : tie.Need-wrapping-add-usize-requires-2 Inv-loop μ-loop
-wrapping-add-usize-requires-2 c κs = search needs
+μ-loop ring table weights reported rows₀ i₀ rows i = 576 - i
 
 loop-holds : tie.Need-loop-holds Inv-loop μ-loop
 loop-holds c = search needs
-
-quotient-requires : tie.Need-quotient-requires Inv-loop μ-loop
-quotient-requires c κs = search needs
-
-counted-requires : tie.Need-counted-requires Inv-loop μ-loop
-counted-requires c κs = search needs
-
-residue-requires : tie.Need-residue-requires Inv-loop μ-loop
-residue-requires c κs = search needs
 
 cell-requires : tie.Need-cell-requires Inv-loop μ-loop
 cell-requires c κs = search needs
@@ -60,13 +42,7 @@ rows-of-spec =
     (tie.spec
     Inv-loop
     μ-loop
-    product-requires
-    wrapping-add-usize-requires
-    wrapping-add-usize-requires-2
     loop-holds
-    quotient-requires
-    counted-requires
-    residue-requires
     cell-requires
     narrow-requires
     mul-rows
