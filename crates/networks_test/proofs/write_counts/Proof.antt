@@ -9,57 +9,21 @@ Inv-loop tally number₀ t4 number = number ≤ 24
 abbrev μ-loop : tie.MeasureT-loop
 μ-loop tally number₀ t4 number = 24 - number
 
-loop-holds : tie.Need-loop-holds Inv-loop μ-loop
-loop-holds c = search needs
-
-mul-write-count : tie.Need-mul-write-count Inv-loop μ-loop
-mul-write-count c = search needs
-
-array-read-write-count : tie.Need-array-read-write-count Inv-loop μ-loop
-array-read-write-count c = search needs
-
-write-count-requires : tie.Need-write-count-requires Inv-loop μ-loop
-write-count-requires c κs = search needs
-
-add-number : tie.Need-add-number Inv-loop μ-loop
-add-number c = search needs
-
-loop-less : tie.Need-loop-less Inv-loop μ-loop
-loop-less c = search needs
-
-loop-again : tie.Need-loop-again Inv-loop μ-loop
-loop-again c = search needs
-
-array-read-print-decimal : tie.Need-array-read-print-decimal Inv-loop μ-loop
-array-read-print-decimal c = search needs
-
-print-decimal-requires : tie.Need-print-decimal-requires Inv-loop μ-loop
-print-decimal-requires c κs = search needs
-
-slice-aggregate-write-all : tie.Need-slice-aggregate-write-all Inv-loop μ-loop
-slice-aggregate-write-all c = search needs
-
-write-all-requires : tie.Need-write-all-requires Inv-loop μ-loop
-write-all-requires c κs = search needs
-
-returns : tie.Need-returns Inv-loop μ-loop
-returns c = search needs
-
 pub write-counts-spec : {M : Type 1} → statement M
 write-counts-spec =
     tie.close
     (tie.spec
     Inv-loop
     μ-loop
-    loop-holds
-    mul-write-count
-    array-read-write-count
-    write-count-requires
-    add-number
-    loop-less
-    loop-again
-    array-read-print-decimal
-    print-decimal-requires
-    slice-aggregate-write-all
-    write-all-requires
-    returns)
+    (search needs)
+    (search needs)
+    (search needs)
+    (search needs)
+    (search needs)
+    (search needs)
+    (search needs)
+    (search needs)
+    (search needs)
+    (search needs)
+    (search needs)
+    (search needs))
