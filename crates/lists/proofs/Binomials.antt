@@ -33,7 +33,7 @@ binomial-next n k h =
 -- ---- how many sets there are
 
 -- equal tests pass equally often
-many-cong : (n : ℕ) (b c : ℕ → Bool) → ((i : ℕ) → i < n → b i ≡ c i) → howMany n b ≡ howMany n c
+pub many-cong : (n : ℕ) (b c : ℕ → Bool) → ((i : ℕ) → i < n → b i ≡ c i) → howMany n b ≡ howMany n c
 unfolding howMany
 many-cong n b c e = sum-cong n (λ i. cond (b i) 1 0) (λ i. cond (c i) 1 0) (λ i l. ap (λ (t : Bool). cond t 1 0) (e i l))
 

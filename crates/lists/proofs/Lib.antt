@@ -6,4 +6,5 @@ pub mod Joins
 pub mod ListLaws
 pub mod Members
 pub mod Searches
+pub mod Sets
 pub mod Sums

@@ -27,6 +27,20 @@ independent-snoc q n G [] c i out = (rw append-nil at out, tt)
 independent-snoc q n G (x ∷ C) c i out =
     (i .0, independent-snoc q n (G ++ (x ∷ [])) C c (i .1) (rw append-assoc out))
 
+-- rows that are picked are independent where none depends on the picked rows before it
+pub independent-picked : (q n : ℕ) (G : List (List ℕ)) (b : ℕ → Bool) (row : ℕ → List ℕ) (k : ℕ)
+    → ((j : ℕ) → j < k → T (b j) → ¬ (InSpan q n (G ++ picked j b (λ i. row i ∷ [])) (row j)))
+    → Independent q n G (picked k b (λ i. row i ∷ []))
+unfolding picked joinTo
+independent-picked q n G b row zero h = tt
+independent-picked q n G b row (suc k) h = go (b k) (h k (lt-suc-self k)) (independent-picked q n G b row k (λ j l. h j (omega arith)))
+  where
+    go : (c : Bool) → (T c → ¬ (InSpan q n (G ++ picked k b (λ i. row i ∷ [])) (row k)))
+        → Independent q n G (picked k b (λ i. row i ∷ []))
+        → Independent q n G (picked k b (λ i. row i ∷ []) ++ cond c (row k ∷ []) [])
+    go true f i = independent-snoc q n G (picked k b (λ i. row i ∷ [])) (row k) i (f tt)
+    go false f i = rw append-nil i
+
 -- row i below k is picked, and in the span of G and the picked rows before it
 pub record Dependent (q n : ℕ) (G : List (List ℕ)) (b : ℕ → Bool) (row : ℕ → List ℕ) (k : ℕ) : Type 0 where
   pub i : ℕ

@@ -10,6 +10,9 @@ pub mod Relays
 pub mod Server
 pub mod PairLeaks
 mod Independence
+mod Products
+mod Fills
+pub mod Largest
 mod Coalitions
 pub mod Clusters
 pub mod LeakTest
