@@ -16,8 +16,8 @@ use Rattle.lists.proofs.Searches.{T-ext, T-decide, true→T}
 use Rattle.residues.proofs.PrimeLaws.{prime-pos, below-at}
 use Rattle.lists.specs.Lists.{All, picked}
 use Rattle.matrices.specs.Linear.{Vector}
-use Rattle.matrices.proofs.Notions.{Independent}
-use Rattle.matrices.specs.Tables.{rowOf}
+use Rattle.matrices.proofs.Notions.{InSpan, Independent}
+use Rattle.matrices.specs.Tables.{rowOf, hasPivot}
 use Rattle.lists.proofs.Members.{all-map}
 use Rattle.matrices.proofs.Elimination.{Table}
 use Rattle.secrecy.specs.Model.{inCoalition, inCluster, inEither, ZeroSum}
@@ -34,12 +34,13 @@ use Rattle.vetting.specs.Walk.{observers, pairsWith, pairs, InWalk}
 use Rattle.vetting.specs.Vet.{leakCheck}
 use Rattle.vetting.specs.Length.{placeIn}
 use Rattle.vetting.specs.Joint.{coalitions, jointCheck}
-use Rattle.vetting.specs.Walking.{baseTable, rowsIn, jointMask, watchMask, hit, walk, firstHit, walked, jointFound, foundCode}
+use Rattle.vetting.specs.Walking.{baseTable, rowsIn, jointMask, watchMask, tableOf, hit, walk, firstHit, walked}
+use Rattle.vetting.specs.Walking.{jointFound, foundCode}
 use Rattle.lists.proofs.BitLaws.{bit-above}
 use Rattle.plans.proofs.PlanBounds.{Bounds, bounds-known}
 use Rattle.vetting.proofs.PairLists.{pairs-in, all-with, map-with}
 use Rattle.vetting.proofs.PickedLaws.{picked-cong}
-use Rattle.vetting.proofs.ReducedTables.{table-iff, ofCoalition}
+use Rattle.vetting.proofs.ReducedTables.{table-iff, pivot-iff, ofCoalition}
 use Rattle.vetting.proofs.WatchLaws.{server-watches, relay-watches, joint-watches, watchedBy}
 use Rattle.vetting.proofs.BaseRows.{base-row, base-sum, base-table}
 
@@ -129,6 +130,14 @@ module _ (P : Plan) (K : List ℕ) (bounds : Bounds P) (symbols : length K ≡ u
         (λ n. test .0 t (subst (λ X. X) (sym same) (quiet .0 (λ k. n (search .1 k))))))
         (λ t. test .1 (λ i. quiet .1 (subst (λ X. X) same i) (search .0 t)))
 
+    -- a user's row in the table of the coalition is not 0 just where it is outside the span of the coalition's
+    pub pivot-decides : (j : ℕ) → j < usersOf P → T (hasPivot (rowsIn P) (P .rate) j (tableOf (P .q) (rowsIn P) (P .rate) (baseTable P K) g))
+        ↔ (¬ (InSpan (P .q) (P .rate) (coalitionRows (poolOf P K) g) (row (poolOf P K) j)))
+    pivot-decides j l =
+        subst (λ X. T (hasPivot (rowsIn P) (P .rate) j (tableOf (P .q) (rowsIn P) (P .rate) (baseTable P K) g)) ↔ (¬ X))
+        (ap₂ (InSpan (P .q) (P .rate)) (rows-are (inCoalition g)) (base-row P K symbols j l))
+        (pivot-iff (P .q) prime (rowsIn P) (P .rate) (baseTable P K) table (usersOf P) g in-rows in-walk member j (omega arith))
+
     -- a relay or the server
     pub decides : (both w : ℕ) → w ≤ P .clusters → hit P both (baseTable P K) g w ≡ leaks (poolOf P K) g w
     decides both w h =
@@ -153,6 +162,12 @@ module _ (P : Plan) (K : List ℕ) (bounds : inBounds P ≡ true) (sized : lengt
   -- the test on one pair decides whether it leaks
   pub pair-verdict : (both g w : ℕ) → g < 2 ^ usersOf P → w ≤ P .clusters → hit P both (baseTable P K) g w ≡ leaks (poolOf P K) g w
   pair-verdict both g w low = decides P K (bounds-known P bounds) sized prime valid columns g low both w
+
+  -- whether a user's row is not 0 decides whether it is outside the span
+  pub pivot-verdict : (g j : ℕ) → g < 2 ^ usersOf P → j < usersOf P
+      → T (hasPivot (rowsIn P) (P .rate) j (tableOf (P .q) (rowsIn P) (P .rate) (baseTable P K) g))
+      ↔ (¬ (InSpan (P .q) (P .rate) (coalitionRows (poolOf P K) g) (row (poolOf P K) j)))
+  pivot-verdict g j low = pivot-decides P K (bounds-known P bounds) sized prime valid columns g low j
 
   -- and that on a coalition with the joint observer of two clusters, whether that leaks
   pub joint-verdict : (a b g : ℕ) → g < 2 ^ usersOf P

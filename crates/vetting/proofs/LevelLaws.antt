@@ -7,7 +7,7 @@ use lib.ListN.{length, getD, take, drop, set, length-drop, take-append-drop, Lis
 use lib.Seq.{take-at, drop-at, drop-append-le, take-append-le, length-take-le, getD-take, getD-drop, paste, paste-suc}
 use Rattle.vetting.specs.Walking.{levelAt, levelSize}
 
-level-front : (size d : ℕ) (A M : List ℕ) → d * levelSize + size ≤ length A → levelAt size (A ++ M) d ≡ levelAt size A d
+pub level-front : (size d : ℕ) (A M : List ℕ) → d * levelSize + size ≤ length A → levelAt size (A ++ M) d ≡ levelAt size A d
 level-front size d A M h =
     ap (take size) (drop-append-le (d * levelSize) A M (omega arith))
     ∙ take-append-le size (drop (d * levelSize) A) M (omega (arith, length-drop (d * levelSize) A))

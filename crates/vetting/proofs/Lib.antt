@@ -17,3 +17,7 @@ pub mod OneCount
 pub mod JointLaws
 pub mod JointTheorems
 pub mod PlanLaws
+pub mod ByLargest
+mod GrowLaws
+mod GrowingSets
+mod ByGrowing

@@ -14,12 +14,14 @@ use Rattle.residues.proofs.PrimeLaws.{prime-pos}
 use Rattle.lists.specs.Lists.{All, picked}
 use Rattle.matrices.specs.Linear.{Vector}
 use Rattle.matrices.proofs.Notions.{InSpan, Independent}
-use Rattle.matrices.specs.Rank.{rankOver, rankOf}
-use Rattle.matrices.specs.Tables.{rowOf, pivotsFrom}
+use Rattle.matrices.specs.Rank.{inSpan, rankOver, rankOf}
+use Rattle.matrices.specs.Tables.{rowOf, hasPivot, pivotsFrom}
 use Rattle.lists.proofs.Members.{all-left, all-right, all-snoc}
-use Rattle.matrices.proofs.Spans.{span-members}
+use Rattle.matrices.proofs.Spans.{span-members, in-span-iff}
+use Rattle.matrices.proofs.Duality.{span-trans}
 use Rattle.matrices.proofs.RankLaws.{full-rank-iff, rank-larger-span, rank-at-most}
-use Rattle.matrices.proofs.Elimination.{Table, Reduced, reduced-none, eliminated-table, eliminated-reduced, reduced-independent, pivots-are-rank, table-of}
+use Rattle.matrices.proofs.Elimination.{Table, Reduced, reduced-none, eliminated-table, eliminated-reduced, reduced-independent, pivot-outside, pivots-are-rank}
+use Rattle.matrices.proofs.Elimination.{table-of}
 use Rattle.lists.specs.Sums.{howMany}
 use Rattle.secrecy.specs.Model.{inCoalition}
 use Rattle.lists.proofs.ListLaws.{all-picked, picked-all, length-picked, map-picked, many-most}
@@ -61,6 +63,13 @@ module _ (q : ℕ) (pr : Prime q) (n : ℕ) where
       (omega (arith, full-rank-iff q n (prime-pos pr) H C hH hC .1 i, rank-larger-span q pr n G H C hH hC s, rank-at-most q n G C))
 
 -- ---- the rows of a table that are chosen
+
+-- one of two tests passes
+one-iff : (a b : Bool) → _≡_ {A = ℕ} (cond a 1 0) (cond b 0 1) → T a ↔ (¬ (T b))
+one-iff true true e = absurd (omega arith)
+one-iff true false e = ((λ t s. s), (λ n. tt))
+one-iff false true e = ((λ t. absurd t), (λ n. n tt))
+one-iff false false e = absurd (omega arith)
 
 unequal-iff : (a b : ℕ) → T (not (eqb a b)) ↔ (¬ (a ≡ b))
 unequal-iff a b = (
@@ -175,16 +184,30 @@ module _ (q : ℕ) (pr : Prime q) (rows cols : ℕ) (U : List ℕ) (table : Tabl
         (all-rows (InSpan q cols reducedRows) (membersFrom 16 0 g) (span-members q cols (prime-pos pr) reducedRows reduced-rows)) j (omega arith)
         (omega arith) t)
 
+    of-table : Table q rows cols (tableOf q rows cols U g) × Reduced q rows cols 0 (rowOf cols U) reducedRows (tableOf q rows cols U g)
+    unfolding reducedRows
+    of-table = reduced-table (membersFrom 16 0 g) (members-all (λ i. i < rows) g (λ j t. omega (arith, members j t)) 16 0)
+
+    -- a row of its table is not 0 just where that of the first table is outside the span of the coalition's
+    pub pivot-iff : (j : ℕ) → j < rows → T (hasPivot rows cols j (tableOf q rows cols U g)) ↔ (¬ (InSpan q cols ofCoalition (rowOf cols U j)))
+    pivot-iff j l =
+        let (t, r) = of-table in
+        let test = one-iff (hasPivot rows cols j (tableOf q rows cols U g)) (inSpan q cols reducedRows (rowOf cols U j))
+        (pivot-outside q pr rows cols 0 (rowOf cols U) reducedRows (tableOf q rows cols U g) t reduced-rows (table .valid) r j (omega arith) l) in
+        let found = in-span-iff q cols (prime-pos pr) reducedRows (rowOf cols U j) reduced-rows in (
+          (λ p w. test .0 p (found .1 (span-trans q pr cols ofCoalition reducedRows (rowOf cols U j) reduced-rows coalition-in w))),
+          (λ n. test .1 (λ s. n (span-trans q pr cols reducedRows ofCoalition (rowOf cols U j) coalition-rows reduced-in (found .0 s)))),
+        )
+
     -- the rows chosen from its table are dependent just where those of the first table are over the coalition's
     pub table-iff : (watch skip : ℕ) → T (dependent q rows cols watch skip (tableOf q rows cols U g))
         ↔ (¬ (Independent q cols ofCoalition (picked rows (chosen watch skip) (λ i. rowOf cols U i ∷ []))))
-    unfolding reducedRows
     table-iff watch skip =
         let J : List ℕ = picked rows (chosen watch skip) (λ i. i ∷ []) in
         let C : List (List ℕ) = picked rows (chosen watch skip) (λ i. rowOf cols U i ∷ []) in
         let hC : All (Vector q cols) C = all-picked (Vector q cols) rows (chosen watch skip) (rowOf cols U) (λ i l t. table .valid i l) in
         let within : All (λ j. (0 ≤ j) × (j < rows)) J = all-picked (λ j. (0 ≤ j) × (j < rows)) rows (chosen watch skip) (λ i. i) (λ i l t. (omega arith, l)) in
-        let (t, r) = reduced-table (membersFrom 16 0 g) (members-all (λ i. i < rows) g (λ j t. omega (arith, members j t)) 16 0) in
+        let (t, r) = of-table in
         let test = dependent-iff q pr rows cols (tableOf q rows cols U g) t watch skip in
         let over = reduced-independent q pr rows cols 0 (rowOf cols U) reducedRows (tableOf q rows cols U g) t reduced-rows (table .valid) r [] J tt within in
         let same : Independent q cols (reducedRows ++ []) (map (rowOf cols U) J) ≡ Independent q cols reducedRows C

@@ -1,7 +1,7 @@
 -- The verdict from its parts: what is known of a plan and a table that passed, and the columns.
 use mathlib.Core.Path.{_≡_, refl, sym, ap, _∙_}
 use mathlib.Core.List.{List, [], _∷_, map}
-use mathlib.Core.Logic.{_≢_}
+use mathlib.Core.Logic.{_≢_, _↔_}
 use Prim.Native.Nat.{ℕ, zero, suc, _+_, _-_, _^_, _≤_, _<_, suc-le-suc}
 use native.Mathlib.Nat.{not-suc-le-zero, le-of-suc-le-suc, zero-lt-suc}
 use native.Mathlib.Decide.{decLt}
@@ -12,7 +12,10 @@ use Rattle.secrecy.specs.Model.{columnSum, ZeroSum}
 use Rattle.refusals.specs.Codes.{accepted, firstOf}
 use Rattle.refusals.proofs.CodeLaws.{numbered, NoneHolds, none-holds, accepted-takes}
 use Rattle.lists.specs.Lists.{tab}
+use Rattle.matrices.specs.Tables.{hasPivot}
+use Rattle.matrices.proofs.Notions.{InSpan}
 use Rattle.secrecy.specs.Leaks.{leaks}
+use Rattle.secrecy.proofs.RankCondition.{row, coalitionRows}
 use Rattle.plans.specs.declared.Plan.{Plan}
 use Rattle.plans.specs.Plans.{usersOf}
 use Rattle.vetting.specs.Pools.{poolOf}
@@ -21,9 +24,9 @@ use Rattle.vetting.specs.Walk.{observers, pairs}
 use Rattle.vetting.specs.Vet.{columnCheck, leakCheck, otherChecks, vetCode, columnChecks}
 use Rattle.vetting.specs.Length.{lookedAt}
 use Rattle.vetting.specs.Joint.{coalitions, jointCheck}
-use Rattle.vetting.specs.Walking.{baseTable, jointMask, hit, walked, jointFound, foundCode}
+use Rattle.vetting.specs.Walking.{baseTable, rowsIn, tableOf, jointMask, hit, walked, jointFound, foundCode}
 use Rattle.refusals.proofs.Orders.{rest-decides}
-use Rattle.vetting.proofs.Deciding.{pair-verdict, found-verdict, found-place, joint-first}
+use Rattle.vetting.proofs.Deciding.{pair-verdict, pivot-verdict, found-verdict, found-place, joint-first}
 
 -- ---- columns
 
@@ -77,6 +80,12 @@ module _ (P : Plan) (K : List ℕ) where
     -- what the test on one pair says
     pub walk-pair : (both g w : ℕ) → g < 2 ^ usersOf P → w ≤ P .clusters → hit P both (baseTable P K) g w ≡ leaks (poolOf P K) g w
     walk-pair = pair-verdict P K (passed .bounds) (passed .size) (passed .prime) (passed .below) (columns-passed e)
+
+    -- what the table of a coalition says of a user's row
+    pub walk-pivot : (g j : ℕ) → g < 2 ^ usersOf P → j < usersOf P
+        → T (hasPivot (rowsIn P) (P .rate) j (tableOf (P .q) (rowsIn P) (P .rate) (baseTable P K) g))
+        ↔ (¬ (InSpan (P .q) (P .rate) (coalitionRows (poolOf P K) g) (row (poolOf P K) j)))
+    walk-pivot = pivot-verdict P K (passed .bounds) (passed .size) (passed .prime) (passed .below) (columns-passed e)
 
     -- what the walk finds
     pub walk-code : foundCode (walked P 0 (observers (P .clusters)) (baseTable P K) .found) ≡ vetCode P K

@@ -48,6 +48,10 @@ levelsSize = 6528
 abbrev pub levelAt : ℕ → List ℕ → ℕ → List ℕ
 levelAt size L d = take size (drop (d * levelSize) L)
 
+-- the symbols of the levels up to k
+abbrev pub through : ℕ → ℕ
+through k = k * levelSize + levelSize
+
 -- level k becomes level k - 1 eliminated by row i
 abbrev pub descended : ℕ → ℕ → ℕ → ℕ → ℕ → List ℕ → List ℕ
 descended q rows cols k i L =

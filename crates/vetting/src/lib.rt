@@ -1,11 +1,13 @@
 // Vetting: the exact verdict on the secrecy of a plan.
 mod checks;
+mod largest;
 mod length;
 mod under_lock;
 mod walk;
 
 pub use checks::vet;
 pub use checks::vet_counted;
+pub use largest::accepts;
 pub use length::count_pairs;
 use refusals::Refusal;
 use refusals::Verdict;

@@ -48,7 +48,7 @@ fn check_relays(plan: Plan, joint: Joint) -> Verdict
 }
 
 // Every check before 7: 1, 4, 2, 3, 8, 6.
-fn check_before(plan: Plan, table: &[Symbol], joint: Joint) -> Verdict
+pub(crate) fn check_before(plan: Plan, table: &[Symbol], joint: Joint) -> Verdict
     ensures { λ r. ⌜ verdictCode r ≡ firstOf (checksBefore plan (now (table .entry)) joint) ⌝ }
 {
     let verdict = check_plan(plan, table);

@@ -1,13 +1,12 @@
 // The walk over coalitions and observers, with one reduced table for each depth of a coalition.
 ghost use mathlib.Core.Path.{_≡_};
-ghost use Prim.Native.Nat.{_+_, _*_, _%_, _≤_, _<_, _^_};
+ghost use Prim.Native.Nat.{_+_, _-_, _*_, _%_, _≤_, _<_, _^_};
 ghost use mathlib.Core.Bool.{true};
 ghost use mathlib.Core.List.{_++_};
-ghost use lib.Count.{ones};
 ghost use lib.ListN.{length, take, drop};
 ghost use lib.Seq.{paste};
 ghost use Rattle.lists.specs.Lists.{at, tab, joinTo, picked};
-ghost use Rattle.matrices.specs.Tables.{rowOf};
+ghost use Rattle.matrices.specs.Tables.{rowOf, hasPivot};
 ghost use Rattle.lists.specs.Sums.{sumTo, howMany};
 ghost use Rattle.plans.specs.Plans.{plan, usersOf, inBounds};
 ghost use Rattle.vetting.specs.Walking.{mostRows, levelsSize, chosen, clusterMask, outsiderIn, testedMask, jointMask, watchMask};
@@ -28,7 +27,7 @@ const ROWS: usize = Plan::MAX_USERS + Plan::MAX_CLUSTERS;
 const LEVEL: usize = ROWS * Plan::MAX_RATE;
 
 // One for each number of members, from 0 on.
-const LEVELS: usize = (Plan::MAX_USERS + 1) * LEVEL;
+pub(crate) const LEVELS: usize = (Plan::MAX_USERS + 1) * LEVEL;
 
 // Whether `watch` has bit i and `skip` doesn't.
 fn is_chosen(watch: u32, skip: u32, i: u32) -> bool
@@ -122,17 +121,25 @@ fn copy_down(levels: &mut [Symbol], a: usize, b: usize, n: usize)
     }
 }
 
-// Level k becomes level k - 1 eliminated by row i.
-fn descend(q: Symbol, rows: usize, cols: usize, k: usize, i: usize, levels: &mut [Symbol])
+// Level k becomes level k - 1 eliminated by row i; whether that row is not 0.
+pub(crate) fn descend(
+    q: Symbol,
+    rows: usize,
+    cols: usize,
+    k: usize,
+    i: usize,
+    levels: &mut [Symbol],
+) -> bool
     requires { ⌜ (length (now levels) ≡ levelsSize) × (rows ≤ mostRows) × (cols ≤ 16) × (0 < k) × (k ≤ 16) ⌝ }
-    ensures { λ _. ⌜ now (levels .exit) ≡ descended q rows cols k i (now (levels .entry)) ⌝ }
+    ensures { λ r. ⌜ (r ≡ hasPivot rows cols i (levelAt (rows * cols) (now (levels .entry)) (k - 1)))
+        × (now (levels .exit) ≡ descended q rows cols k i (now (levels .entry))) ⌝ }
 {
     let n = rows * cols;
     let b = k * LEVEL;
     let a = b - LEVEL;
     let e = b + n;
     copy_down(levels, a, b, n);
-    eliminate(q, rows, cols, i, &mut levels[b..e]);
+    eliminate(q, rows, cols, i, &mut levels[b..e])
 }
 
 // Row i of a table is put at row n of another.
@@ -191,24 +198,25 @@ fn are_dependent(
     reduce_rows(q, n, cols, &mut s[..m]) != n
 }
 
-// Whether the rows that an observer watches depend on each other over those of the coalition g, whose table stands on its level.
-fn leaks_to(
+// Whether the rows that an observer watches depend on each other over those of the coalition g, whose table stands on level k.
+pub(crate) fn leaks_to(
     q: Symbol,
     clusters: usize,
     size: usize,
     cols: usize,
     both: u32,
+    k: usize,
     g: u16,
     w: u16,
     levels: &[Symbol],
 ) -> bool
-    requires { ⌜ (length (now levels) ≡ levelsSize) × (clusters ≤ 8) × (size ≤ 8) × (clusters * size ≤ 16) × (cols ≤ 16) ⌝ }
+    requires { ⌜ (length (now levels) ≡ levelsSize) × (clusters ≤ 8) × (size ≤ 8) × (clusters * size ≤ 16) × (cols ≤ 16) × (k ≤ 16) ⌝ }
     ensures { λ r. ⌜ r ≡ dependent q (clusters * size + clusters) cols (watchMask clusters size both g w) g
-        (levelAt ((clusters * size + clusters) * cols) (now (levels .entry)) (ones g)) ⌝ }
+        (levelAt ((clusters * size + clusters) * cols) (now (levels .entry)) k) ⌝ }
 {
     let rows = clusters * size + clusters;
     let watch = watch_mask(clusters as u32, size as u32, both, g as u32, w as u32);
-    let b = u16::count_ones(g) as usize * LEVEL;
+    let b = k * LEVEL;
     let e = b + rows * cols;
     are_dependent(q, rows, cols, watch, g as u32, &levels[b..e])
 }
@@ -245,7 +253,7 @@ fn walk_levels(
             while w < watching.len() {
                 let observer = watching[w];
                 looked += 1;
-                if leaks_to(q, clusters, size, cols, both, g, observer, levels) {
+                if leaks_to(q, clusters, size, cols, both, k, g, observer, levels) {
                     break 'walk Walked {
                         found: Found::At(Pair {
                             coalition: g,
@@ -324,7 +332,7 @@ fn sum_rows(
 }
 
 // Level 0: the key table, and below it the sums of its clusters.
-fn set_base(plan: Plan, table: &[Symbol], levels: &mut [Symbol])
+pub(crate) fn set_base(plan: Plan, table: &[Symbol], levels: &mut [Symbol])
     requires { ⌜ (inBounds plan ≡ true) × (length (now table) ≡ usersOf plan * plan .rate) × (0 < plan .q) × (length (now levels) ≡ levelsSize) ⌝ }
     ensures { λ _. ⌜ (length (now (levels .exit)) ≡ levelsSize)
         × (take ((usersOf plan + plan .clusters) * plan .rate) (now (levels .exit)) ≡ baseTable plan (now (table .entry))) ⌝ }

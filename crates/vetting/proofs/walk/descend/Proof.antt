@@ -5,7 +5,7 @@ use native.Mathlib.Nat.{le-add-right, add-sub-cancel-left}
 use native.Mathlib.Omega.{arith}
 use lib.ListN.{length, take, drop, length-drop}
 use lib.Seq.{paste, length-paste}
-use Rattle.matrices.specs.Tables.{eliminated}
+use Rattle.matrices.specs.Tables.{hasPivot, eliminated}
 use Rattle.vetting.proofs.GatherLaws.{few-numbers}
 use Rattle.vetting.proofs.LevelLaws.{part-is, changed}
 use Rattle.vetting.proofs.walk.descend.Statement.{statement}
@@ -53,10 +53,17 @@ returns c =
     let ha : d - levelSize + n ≤ length L = omega (arith, size s, s .pre .0, s .pre .3, s .pre .4) in
     let hb : d + n ≤ length L = omega (arith, size s, s .pre .0, s .pre .4) in
     let ea : d - levelSize ≡ (a .k - 1) * levelSize = omega (arith, s .pre .3) in
-    ap (λ (X : List ℕ). take d P ++ (X ++ drop m (drop d P))) (c .before .before .eliminate .ensures .1)
-    ∙ ap (λ (X : List ℕ). take d X ++ (E (take m (drop d X)) ++ drop m (drop d X))) (c .before .before .before .before .before .before .copy-down .ensures)
-    ∙ changed (d - levelSize) d n m L em ha hb (E (take m (drop d (paste L d (drop (d - levelSize) L) n))))
-    ∙ ap (λ (X : List ℕ). take d L ++ (E X ++ drop (d + n) L)) (part-is (d - levelSize) d n m L em ha hb ∙ ap (λ (z : ℕ). take n (drop z L)) ea)
+    let copied = c .before .before .before .before .before .before .copy-down .ensures in
+    let level : take m (drop d (paste L d (drop (d - levelSize) L) n)) ≡ take n (drop ((a .k - 1) * levelSize) L)
+    = part-is (d - levelSize) d n m L em ha hb ∙ ap (λ (z : ℕ). take n (drop z L)) ea in (
+      c .before .before .eliminate .ensures .0
+          ∙ ap (λ (X : List ℕ). hasPivot (a .rows) (a .cols) (a .i) (take m (drop d X))) copied
+          ∙ ap (hasPivot (a .rows) (a .cols) (a .i)) level,
+      ap (λ (X : List ℕ). take d P ++ (X ++ drop m (drop d P))) (c .before .before .eliminate .ensures .1)
+          ∙ ap (λ (X : List ℕ). take d X ++ (E (take m (drop d X)) ++ drop m (drop d X))) copied
+          ∙ changed (d - levelSize) d n m L em ha hb (E (take m (drop d (paste L d (drop (d - levelSize) L) n))))
+          ∙ ap (λ (X : List ℕ). take d L ++ (E X ++ drop (d + n) L)) level,
+    )
 
 pub descend-spec : {M : Type 1} → statement M
 descend-spec =

@@ -3,7 +3,6 @@ use mathlib.Core.List.{List}
 use Prim.Native.Nat.{ℕ, _+_, _-_, _*_, _≤_}
 use native.Mathlib.Nat.{le-add-right, add-sub-cancel-left}
 use native.Mathlib.Omega.{arith}
-use lib.Count.{ones, ones-le}
 use lib.ListN.{take, drop}
 use Rattle.vetting.specs.Walking.{dependent, levelSize}
 use Rattle.vetting.proofs.GatherLaws.{few-numbers}
@@ -11,35 +10,29 @@ use borrow.Author.Needs.{needs}
 use Rattle.vetting.proofs.walk.leaks_to.Statement.{statement}
 use Rattle.vetting.proofs.walk.leaks_to.Tie as tie
 
--- a coalition has at most 16 members, and a level has room for the table
-low : (s : tie.Start) → ones (s .args .g) ≤ 16
-low s = ones-le 16 (s .args .g) (omega arith)
-
+-- a level has room for the table
 room : (s : tie.Start) → (s .args .clusters * s .args .size + s .args .clusters) * s .args .cols ≤ levelSize
 room s = few-numbers (s .args .clusters * s .args .size + s .args .clusters) (s .args .cols) (omega (arith, s .pre .1, s .pre .3)) (s .pre .4)
 
-cast-b : tie.Need-cast-b
-cast-b c = omega (arith, low (c .before .before))
-
 mul-b : tie.Need-mul-b
-mul-b c = omega (arith, low (c .before .before))
+mul-b c = omega (arith, c .before .before .pre .5)
 
 mul-e : tie.Need-mul-e
 mul-e c = omega (arith, room (c .before .before))
 
 add-e : tie.Need-add-e
-add-e c = omega (arith, low (c .before .before), room (c .before .before))
+add-e c = omega (arith, c .before .before .pre .5, room (c .before .before))
 
 mul-are-dependent : tie.Need-mul-are-dependent
-mul-are-dependent c = omega (arith, low (c .before .before))
+mul-are-dependent c = omega (arith, c .before .before .pre .5)
 
 part-are-dependent-end : tie.Need-part-are-dependent-end
-part-are-dependent-end c = omega (arith, low (c .before .before), room (c .before .before), c .before .before .pre .0)
+part-are-dependent-end c = omega (arith, c .before .before .pre .5, room (c .before .before), c .before .before .pre .0)
 
 returns : tie.Need-returns
 returns c =
     let a = c .before .before .before .before .args in
-    let b : ℕ = ones (a .g) * levelSize in
+    let b : ℕ = a .k * levelSize in
     let n : ℕ = (a .clusters * a .size + a .clusters) * a .cols in
     let e : b + n - b ≡ n = add-sub-cancel-left b n in
     c .are-dependent .ensures
@@ -55,7 +48,6 @@ leaks-to-spec =
     (λ c. omega arith)
     (λ c. omega arith)
     (λ c κs. (c .before .pre .1, c .before .pre .2, c .before .pre .3))
-    cast-b
     mul-b
     mul-e
     add-e

@@ -108,7 +108,7 @@ full c =
     let H : Holds (a .q) rows (a .cols) (a .limit) T L g = c .before .before .walk .inv .1 in
     ⊎-elim
     (λ w.
-    subst (λ (X : List ℕ). Full (a .q) rows (a .cols) (a .limit) T X g) (sym (w .5 ∙ w .2 .ensures))
+    subst (λ (X : List ℕ). Full (a .q) rows (a .cols) (a .limit) T X g) (sym (w .5 ∙ w .2 .ensures .1))
     (full-step (a .q) rows (a .cols) (a .limit) T L g (pos-of-ne-zero (w .0 .taken)) (small (c .before .before)) (rows-few s₀) (s₀ .pre .4) H
     (omega (arith, c .before .if1 .taken))))
     (λ w.
@@ -272,7 +272,7 @@ leaks-to-requires : tie.Need-leaks-to-requires Inv-loop μ-loop Inv-walk μ-walk
 leaks-to-requires c κs =
     let d = c .before .before .before .before in
     let s = d .before .before .before .before .before in
-    (full d .size, s .pre .1, s .pre .2, s .pre .3, s .pre .4)
+    (full d .size, s .pre .1, s .pre .2, s .pre .3, s .pre .4, ones-le 16 (d .before .before .walk .g) (small (d .before .before)))
 
 add-w : tie.Need-add-w Inv-loop μ-loop Inv-walk μ-walk
 add-w c =
