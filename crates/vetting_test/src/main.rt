@@ -84,7 +84,10 @@ fn compare(c: Case, t: &mut [Symbol], counts: &mut [u8; 65536]) -> usize {
     let answer = said(vetting::vet(plan_of(s), t));
     let report = vetting::vet_counted(plan_of(s), t);
     let verdict = report.verdict;
-    let same = said(verdict) == answer && report.looked as usize == looked_at(s, answer);
+    let accepted = vetting::accepts(plan_of(s), t) == (answer == 0);
+    let same = accepted
+        && said(verdict) == answer
+        && report.looked as usize == looked_at(s, answer);
     if !same || answer != second_answer(c, t, counts) {
         return 8;
     }
