@@ -7,12 +7,12 @@ ghost use Rattle.lists.specs.Lists.{at, tab};
 ghost use Rattle.secrecy.specs.Model.{sumSoFar};
 ghost use Rattle.plans.specs.Plans.{usersOf};
 ghost use Rattle.keys.specs.Keys.{keysOf, keyCode, keysAfter};
+use crate::verdict::verdict_on;
 use arithmetic::Symbol;
 use plans::Plan;
 use plans::length_fits;
 use refusals::Refusal;
 use refusals::Verdict;
-use vetting::vet;
 
 // One product more: from the sum after k products to that after k + 1.
 fn add_product(q: Symbol, row: &[Symbol], symbols: &[Symbol], k: usize, sum: Symbol) -> Symbol
@@ -90,7 +90,7 @@ fn check_keys(
 ) -> Verdict
     ensures { λ r. ⌜ verdictCode r ≡ keyCode plan (now (table .entry)) length (now (source .entry)) (now (keys .entry)) ⌝ }
 {
-    let vetted = vet(plan, table);
+    let vetted = verdict_on(plan, table);
     if !vetted.is_accepted() {
         return vetted;
     }

@@ -14,6 +14,7 @@ ghost use Rattle.plans.specs.Plans.{usersOf, inBounds, noPlan, plannedCode, pla
 ghost use Rattle.vetting.specs.Walk.{pairs};
 ghost use Rattle.vetting.specs.Vet.{leakCheck};
 ghost use Rattle.keys.specs.Maker.{rateOf, planOf, entry, madeTable, makerChecks, makerCode, makerPlan, makerTable};
+use crate::verdict::verdict_on;
 use arithmetic::Symbol;
 use arithmetic::power_mod;
 use matrices::copy;
@@ -23,7 +24,6 @@ use plans::counts_fit;
 use primes::is_prime;
 use refusals::Refusal;
 use refusals::Verdict;
-use vetting::vet;
 
 // The largest table.
 const LARGEST: usize = Plan::MAX_USERS * Plan::MAX_RATE;
@@ -140,7 +140,7 @@ fn write_vetted(
         ≡ ifAccepted (verdictCode r) (madeTable (plan .clusters) (plan .size) (plan .limit) (plan .q) generator) (now (table .entry)) ⌝ }
 {
     fill_table(plan, generator, built);
-    let verdict = vet(plan, built);
+    let verdict = verdict_on(plan, built);
     if verdict.is_accepted() {
         copy(built, table);
     }

@@ -22,13 +22,13 @@ use Rattle.keys.proofs.derive.check_keys.Tie as tie
 returns : tie.Need-returns
 returns c =
     let a = c .before .before .before .before .before .before .args in
-    let vetted = c .before .before .vet in
+    let vetted = c .before .before .verdict-on in
     first-answers (vetChecks (a .plan) (a .table .now)) (blockChecks (a .plan) (a .length) (a .source .now) (a .keys .now)) (vetted .result) (vetted .ensures)
     (c .before .is-accepted .ensures) (c .if1 .taken)
 
 -- the vet accepted
 told : (c : tie.Else1) → (let a = c .before .before .before .before .before .before .args in accepted ≡ firstOf (vetChecks (a .plan) (a .table .now)))
-told c = passes (c .before .before .vet .result) (c .before .before .vet .ensures) (c .before .is-accepted .ensures) (not-false _ (c .if1 .left))
+told c = passes (c .before .before .verdict-on .result) (c .before .before .verdict-on .ensures) (c .before .is-accepted .ensures) (not-false _ (c .if1 .left))
 
 known : (c : tie.Else1) → (let a = c .before .before .before .before .before .before .args in Vetted (a .plan) (a .table .now))
 known c = let a = c .before .before .before .before .before .before .args in vetted (a .plan) (a .table .now) (told c)

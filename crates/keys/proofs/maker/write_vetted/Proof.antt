@@ -29,11 +29,11 @@ made s = let P = s .args .plan in madeTable (P .clusters) (P .size) (P .limit) (
 abbrev walk : tie.Start → Code
 walk s = let P = s .args .plan in firstOf (map (leakCheck P (made s)) (pairs (P .clusters) (P .size) (P .limit)))
 
-found : (c : tie.After-vet) → verdictCode (c .vet .result) ≡ walk (c .before .before .before .before .before .before .before .before)
+found : (c : tie.After-verdict-on) → verdictCode (c .verdict-on .result) ≡ walk (c .before .before .before .before .before .before .before .before)
 found c =
     let s = c .before .before .before .before .before .before .before .before in
     let P = s .args .plan in
-    c .vet .ensures
+    c .verdict-on .ensures
     ∙ ap (vetCode P) (c .before .before .before .before .fill-table .ensures)
     ∙ made-verdict P (s .args .generator) (bounds-known P (s .pre .0)) (true-prime (P .q) (s .pre .1)) (s .pre .2) (s .pre .0)
 
@@ -41,7 +41,7 @@ returns-2 : tie.Need-returns-2
 returns-2 c =
     let v = c .before .before in
     let s = v .before .before .before .before .before .before .before .before in
-    (found v, sym (old-kept (verdictCode (v .vet .result)) (made s) (s .args .table .now) (sym (c .before .is-accepted .ensures) ∙ c .if1 .left)))
+    (found v, sym (old-kept (verdictCode (v .verdict-on .result)) (made s) (s .args .table .now) (sym (c .before .is-accepted .ensures) ∙ c .if1 .left)))
 
 returns : tie.Need-returns
 returns c =
@@ -51,7 +51,7 @@ returns c =
     let lent : List ℕ = s .args .table .now in
     let copied = copied-whole built lent _ (c .before .before .copy .ensures) (v .before .before .before .built .given ∙ s .pre .3 ∙ sym (s .pre .4)) in
     let accepts = sym (c .before .before .before .before .before .before .is-accepted .ensures) ∙ c .before .before .before .before .before .if1 .taken in
-    (found v, copied ∙ v .before .before .before .before .fill-table .ensures ∙ sym (new-taken (verdictCode (v .vet .result)) (made s) lent accepts))
+    (found v, copied ∙ v .before .before .before .before .fill-table .ensures ∙ sym (new-taken (verdictCode (v .verdict-on .result)) (made s) lent accepts))
 
 pub write-vetted-spec : {M : Type 1} → statement M
 write-vetted-spec =
