@@ -4,13 +4,13 @@ use Prim.Native.Nat.{ℕ, zero, suc, _*_, _/_, _<_}
 use mathlib.Core.Path.{_≡_, sym, subst}
 use mathlib.Core.Bool.{not}
 use mathlib.Core.Logic.{_⊎_, ⊎-elim}
-use mathlib.Core.List.{List, [], _∷_}
+use mathlib.Core.List.{List, []}
 use native.Mathlib.Omega.{arith}
 use lib.Dec.{T, not-T, eqb, eqb-refl}
 use lib.ListN.{length}
 use Rattle.residues.specs.Primes.{Prime}
 use Rattle.residues.proofs.Congruence.{Cong, of-eq, of-mod, c-sym, c-trans, cong-zero, zero-not-one}
-use Rattle.lists.specs.Lists.{All, zeros}
+use Rattle.lists.specs.Lists.{zeros}
 use Rattle.lists.proofs.ListLaws.{all-picked, picked-all, length-zeros}
 use Rattle.lists.proofs.Searches.{and-T}
 use Rattle.lists.proofs.Sets.{lower, lower-in, lower-out}

@@ -1,6 +1,6 @@
 -- Coalitions that grow by users of falling number. One with no member up to j is m * 2 ^ (j + 1); with j it has one member more, whose row comes last in the
 -- elimination.
-use Prim.Native.Nat.{ℕ, zero, suc, _+_, _-_, _*_, _/_, _%_, _^_, _≤_, _<_}
+use Prim.Native.Nat.{ℕ, zero, suc, _+_, _-_, _*_, _/_, _%_, _^_, _<_}
 use mathlib.Core.Path.{_≡_, refl, sym, ap, ap₂, _∙_, subst}
 use mathlib.Core.Logic.{_⊎_, inl, inr}
 use mathlib.Core.List.{List, _∷_}
@@ -10,7 +10,6 @@ use native.Mathlib.Omega.{arith}
 use lib.Dec.{T}
 use lib.Pow.{pow-pos}
 use lib.Count.{ones, ones-cat, trailingZeros}
-use Rattle.lists.specs.Bits.{hasBit}
 use Rattle.lists.specs.Lists.{All}
 use Rattle.lists.proofs.BitLaws.{low-ones}
 use Rattle.matrices.specs.Tables.{eliminated}

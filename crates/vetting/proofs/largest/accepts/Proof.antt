@@ -1,6 +1,6 @@
 use borrow.Author.Needs.{needs}
 use mathlib.Core.Path.{_≡_, sym, _∙_}
-use Rattle.refusals.specs.Codes.{accepted, firstOf, isAccepted}
+use Rattle.refusals.specs.Codes.{accepted, firstOf}
 use Rattle.refusals.proofs.Answers.{passes, refuses}
 use Rattle.residues.proofs.PrimeLaws.{prime-pos}
 use Rattle.vetting.specs.Vet.{otherChecks}
