@@ -83,6 +83,14 @@ pub fn derive(plan: &Plan, length: usize, source: &[Symbol], keys: &mut [Symbol]
     })
 }
 
+/// Derivation as far as the plan is accepted: the length 0 is refused right after that.
+pub fn ask(plan: &Plan) -> Code {
+    match derive(plan, 0, &[], &mut []) {
+        Code(9, 0, 0) => Code(0, 0, 0),
+        refused => refused,
+    }
+}
+
 pub fn upload(q: Symbol, length: usize, a: &[Symbol], key: &[Symbol], out: &mut [Symbol]) -> Code {
     unpack(unsafe { kortyghai_upload(q, length, a.as_ptr(), a.len(), key.as_ptr(), key.len(), out.as_mut_ptr(), out.len()) })
 }

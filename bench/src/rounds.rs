@@ -293,20 +293,20 @@ fn measure_moves(s: &mut Seeded, q: Symbol) -> bool {
     line(&format!("moving on, q {q}, ns"), 1e9, x, y)
 }
 
-/// Derivation less the vet's share of it, which the proved function makes first.
+/// Derivation less the share of asking whether the plan is accepted, which the proved function does first.
 fn measure_keys(s: &mut Seeded, q: Symbol) -> bool {
     let plan = Plan::made(8, 2, 0, q, 2);
     let source = drawn(s, plan.q, 64 * plan.rate);
     let (mut a, mut b, mut c) = (vec![0; 1024], vec![0; 1024], vec![0; 1024]);
-    let [both, vet, steps, once] = least(200, 25, [
+    let [both, asked, steps, once] = least(200, 25, [
         &mut |n| (0..n).for_each(|_| assert_eq!(proved::derive(black_box(&plan), 64, black_box(&source), black_box(&mut a)), Code(0, 0, 0))),
-        &mut |n| (0..n).for_each(|_| assert_eq!(proved::vet(black_box(&plan)), Code(0, 0, 0))),
+        &mut |n| (0..n).for_each(|_| assert_eq!(proved::ask(black_box(&plan)), Code(0, 0, 0))),
         &mut |n| (0..n).for_each(|_| keys_by_steps(black_box(&plan), 64, black_box(&source), black_box(&mut b))),
         &mut |n| (0..n).for_each(|_| keys_at_once(black_box(&plan), 64, black_box(&source), black_box(&mut c))),
     ]);
     assert_eq!((&a, &a), (&b, &c));
-    let met = line(&format!("keys, q {q}, remainder each product, ns a symbol"), 1e9 / 1024.0, both - vet, steps);
-    line(&format!("keys, q {q}, one remainder a symbol, ns a symbol"), 1e9 / 1024.0, both - vet, once);
+    let met = line(&format!("keys, q {q}, remainder each product, ns a symbol"), 1e9 / 1024.0, both - asked, steps);
+    line(&format!("keys, q {q}, one remainder a symbol, ns a symbol"), 1e9 / 1024.0, both - asked, once);
     met
 }
 

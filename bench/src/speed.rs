@@ -7,6 +7,10 @@ use std::hint::black_box;
 const BAR: f64 = 0.35;
 const USUAL: f64 = 0.001;
 
+/// The share of the time before that dealing may take where the limit is small, and the longest block.
+const SMALL: f64 = 1.1;
+const LONGEST: usize = 64;
+
 #[repr(C)]
 struct Timespec {
     seconds: i64,
@@ -24,7 +28,7 @@ pub fn processor_time() -> f64 {
     time.seconds as f64 + time.nanoseconds as f64 * 1e-9
 }
 
-fn timed(f: impl Fn(&Plan) -> Code, plan: &Plan) -> f64 {
+fn timed(mut f: impl FnMut(&Plan) -> Code, plan: &Plan) -> f64 {
     let start = processor_time();
     assert_eq!(black_box(f(black_box(plan))), Code(0, 0, 0));
     processor_time() - start
@@ -52,10 +56,46 @@ fn measure_at(q: Symbol) -> bool {
     met
 }
 
+/// The least times of dealing one block: now, and as it was when the vet made its whole walk first. That is the vet's time, and what dealing takes beside asking
+/// whether the plan is accepted.
+fn dealing(plan: &Plan, runs: usize) -> (f64, f64) {
+    let source = vec![plan.q - 1; LONGEST * plan.rate];
+    let mut keys = vec![0; LONGEST * plan.clusters * plan.size];
+    let (mut whole, mut asked, mut vet) = (f64::MAX, f64::MAX, f64::MAX);
+    for _ in 0..runs {
+        whole = whole.min(timed(|plan| proved::derive(plan, LONGEST, &source, &mut keys), plan));
+        asked = asked.min(timed(proved::ask, plan));
+        vet = vet.min(timed(proved::vet, plan));
+    }
+    (whole, vet + whole - asked)
+}
+
+/// The dealings of one prime; whether every bar is met.
+fn deal_at(q: Symbol) -> bool {
+    let large = [(8, 2, 13, 9, 0.1), (4, 4, 11, 9, 0.2), (2, 8, 7, 21, 0.6), (4, 4, 6, 31, 0.7)];
+    let small = [(8, 2), (4, 4), (2, 8)].into_iter().flat_map(|(u, v)| (0..3).map(move |t| (u, v, t, 200, SMALL)));
+    let mut met = true;
+    for (u, v, t, runs, bar) in large.into_iter().chain(small) {
+        let plan = Plan::made(u, v, t, q, 2);
+        let (a, b) = dealing(&plan, runs);
+        println!("{u:3}{v:3}{t:3}{:3}{q:12}{:12.3}{:11.3}{:8.2}{bar:6}", plan.rate, a * 1e3, b * 1e3, a / b);
+        met &= a <= bar * b;
+    }
+    met
+}
+
+/// Whether every bar of dealing is met.
+fn deal() -> bool {
+    println!("  U  V  T  R           q    dealt ms  before ms   ratio   bar");
+    let met = LARGE_PRIMES.map(deal_at).into_iter().all(|met| met);
+    println!("bars of dealing: {}", if met { "met" } else { "NOT met" });
+    met
+}
+
 /// Whether every bar is met.
 pub fn measure() -> bool {
     println!("  U  V  T  R           q   proved ms   plain ms   ratio");
     let met = LARGE_PRIMES.map(measure_at).into_iter().all(|met| met);
     println!("bars (ratio at most {BAR} in the large plans, under {} ms in the last): {}", USUAL * 1e3, if met { "met" } else { "NOT met" });
-    met
+    met & deal()
 }

@@ -3,7 +3,7 @@ use Prim.Native.Nat.{ℕ, zero, suc, _+_, _-_, _*_, _%_, _^_, _≤_, _<_}
 use mathlib.Core.Path.{_≡_, refl, sym, ap, ap₂, _∙_, subst}
 use mathlib.Core.Bool.{Bool, true, false, cond, _&&_}
 use mathlib.Core.List.{List}
-use native.Mathlib.Nat.{pow-suc, one-mul, pos-of-ne-zero}
+use native.Mathlib.Nat.{pow-suc, one-mul}
 use native.Mathlib.Omega.{arith}
 use lib.Dec.{eqb, ltb}
 use lib.ListN.{length, take, drop, length-drop, take-append-drop}
@@ -38,19 +38,16 @@ pub grown-full : (q clusters size limit cols i k g : ℕ) (U : List ℕ) → k �
 unfolding quietAt
 grown-full q clusters size limit cols i k g U e = grown-at (plan clusters size limit cols q) i k g U e
 
-module _ (P : Plan) (k g : ℕ) (U : List ℕ) (ne : ¬ (k ≡ P .limit)) where
-  -- nobody can come in
-  pub grown-none : (i : ℕ) → i ≡ 0 → true ≡ grown P i k g U
-  unfolding grown
-  grown-none zero e = sym (no-is (eqb k (P .limit)) (quietAt P g U) true (ne-eqb k (P .limit) ne))
-  grown-none (suc i) e = absurd (omega arith)
+module _ (P : Plan) (k g : ℕ) (U : List ℕ) where
+  few : k < P .limit → eqb k (P .limit) ≡ false
+  few l = ne-eqb k (P .limit) (λ e. absurd (omega arith))
 
-  -- too few can
-  pub grown-few : (i : ℕ) → ¬ (i ≡ 0) → i + k < P .limit → true ≡ grown P i k g U
+  -- too few can come in
+  pub grown-few : (i : ℕ) → i + k < P .limit → true ≡ grown P i k g U
   unfolding grown
-  grown-few zero n l = absurd (n refl)
-  grown-few (suc i) n l =
-      sym (no-is (eqb k (P .limit)) (quietAt P g U) _ (ne-eqb k (P .limit) ne) ∙ yes-is (ltb (suc i + k) (P .limit)) true _ (lt-ltb (suc i + k) (P .limit) l))
+  grown-few zero l = sym (no-is (eqb k (P .limit)) (quietAt P g U) true (few (omega arith)))
+  grown-few (suc i) l =
+      sym (no-is (eqb k (P .limit)) (quietAt P g U) _ (few (omega arith)) ∙ yes-is (ltb (suc i + k) (P .limit)) true _ (lt-ltb (suc i + k) (P .limit) l))
 
   -- user j comes in, or does not
   abbrev Next : ℕ → ℕ → Type 0
@@ -59,15 +56,15 @@ module _ (P : Plan) (k g : ℕ) (U : List ℕ) (ne : ¬ (k ≡ P .limit)) where
       ≡ (hasPivot (rowsIn P) (P .rate) j U
       && (grown P j (k + 1) (g + 2 ^ j) (eliminated (P .q) (rowsIn P) (P .rate) j U) && grown P j k g U))
 
-  grown-suc : (i : ℕ) → P .limit ≤ suc i + k → Next (suc i) i
+  grown-suc : (i : ℕ) → k < P .limit → P .limit ≤ suc i + k → Next (suc i) i
   unfolding grown
-  grown-suc i l =
-      no-is (eqb k (P .limit)) (quietAt P g U) _ (ne-eqb k (P .limit) ne)
+  grown-suc i n l =
+      no-is (eqb k (P .limit)) (quietAt P g U) _ (few n)
       ∙ no-is (ltb (suc i + k) (P .limit)) true _ (le-ltb (suc i + k) (P .limit) l)
 
-  grown-step : (i : ℕ) → ¬ (i ≡ 0) → P .limit ≤ i + k → Next i (i - 1)
-  grown-step zero n l = absurd (n refl)
-  grown-step (suc i) n l = subst (Next (suc i)) {x = i} {y = suc i - 1} (omega arith) (grown-suc i l)
+  grown-step : (i : ℕ) → k < P .limit → 0 < i → P .limit ≤ i + k → Next i (i - 1)
+  grown-step zero n s l = absurd (omega arith)
+  grown-step (suc i) n s l = subst (Next (suc i)) {x = i} {y = suc i - 1} (omega arith) (grown-suc i n l)
 
 -- ---- the three ways that a step ends
 
@@ -124,8 +121,8 @@ module _ (q rows cols k i : ℕ) (L : List ℕ) (h : (k + 1) * levelSize + rows 
 shl-is : (j : ℕ) → j < 16 → 1 * 2 ^ j % 65536 ≡ 2 ^ j
 shl-is j h = one-shl 16 j h ∙ one-mul (2 ^ j)
 
-two-halves : (i : ℕ) → ¬ (i ≡ 0) → 2 ^ (i - 1) + 2 ^ (i - 1) ≡ 2 ^ i
-two-halves zero n = absurd (n refl)
+two-halves : (i : ℕ) → 0 < i → 2 ^ (i - 1) + 2 ^ (i - 1) ≡ 2 ^ i
+two-halves zero n = absurd (omega arith)
 two-halves (suc i) n =
     let e : suc i - 1 ≡ i = omega arith in
     ap (λ (j : ℕ). 2 ^ j + 2 ^ j) e ∙ omega (arith, pow-suc 2 i)
@@ -138,16 +135,16 @@ pub record Step (q clusters size limit cols i k g : ℕ) (L : List ℕ) : Type 0
   pub few : clusters ≤ 8
   pub users : clusters * size ≤ 16
   pub narrow : cols ≤ 16
+  pub within : k < limit
   pub low : i + k ≤ 16
   pub room : g + 2 ^ i ≤ 65536
-  pub more : ¬ (k ≡ limit)
-  pub some : ¬ (i ≡ 0)
+  pub some : 0 < i
   pub enough : limit ≤ i + k
 
 module _ {q clusters size limit cols i k g : ℕ} {L : List ℕ} (c : Step q clusters size limit cols i k g L) where
   -- the user's bit, and the coalition with it
   pub bit-is : 1 * 2 ^ (i - 1) % 65536 ≡ 2 ^ (i - 1)
-  bit-is = shl-is (i - 1) (omega (arith, c .low, pos-of-ne-zero (c .some)))
+  bit-is = shl-is (i - 1) (omega (arith, c .low, c .some))
 
   pub room-half : g + 2 ^ (i - 1) + 2 ^ (i - 1) ≤ 65536
   room-half = omega (arith, two-halves i (c .some), c .room)
@@ -168,7 +165,7 @@ module _ {q clusters size limit cols i k g : ℕ} {L : List ℕ} (c : Step q clu
   small = few-numbers rows cols (omega (arith, c .few, c .users)) (c .narrow)
 
   fits : (k + 1) * levelSize + rows * cols ≤ length L
-  fits = omega (arith, small, c .len, c .low, pos-of-ne-zero (c .some))
+  fits = omega (arith, small, c .len, c .low, c .some)
 
   -- the three that a step asks for
   abbrev one : Bool
@@ -184,7 +181,7 @@ module _ {q clusters size limit cols i k g : ℕ} {L : List ℕ} (c : Step q clu
   answer = grown P i k g (levelAt (rows * cols) L k)
 
   step : answer ≡ (one && (two && three))
-  step = grown-step P k g (levelAt (rows * cols) L k) (c .more) i (c .some) (c .enough)
+  step = grown-step P k g (levelAt (rows * cols) L k) i (c .within) (c .some) (c .enough)
 
   -- the row is 0
   module _ (r : Bool) (pivot : r ≡ hasPivot rows cols (i - 1) (levelAt (rows * cols) L (k + 1 - 1))) where

@@ -55,30 +55,28 @@ fn grow(
     g: u16,
     levels: &mut [Symbol],
 ) -> bool
-    requires { ⌜ (length (now levels) ≡ levelsSize) × (clusters ≤ 8) × (size ≤ 8) × (clusters * size ≤ 16) × (cols ≤ 16) × (i + k ≤ 16)
-        × (g + 2 ^ i ≤ 65536) ⌝ }
+    requires { ⌜ (length (now levels) ≡ levelsSize) × (clusters ≤ 8) × (size ≤ 8) × (clusters * size ≤ 16) × (cols ≤ 16) × (k ≤ limit)
+        × (i + k ≤ 16) × (g + 2 ^ i ≤ 65536) ⌝ }
     ensures { λ r. ⌜ (r ≡ grown (plan clusters size limit cols q) i k g (levelAt ((clusters * size + clusters) * cols) (now (levels .entry)) k))
         × (take (through k) (now (levels .exit)) ≡ take (through k) (now (levels .entry))) ⌝ }
 {
-    if k == limit {
+    let left = limit - k;
+    if left == 0 {
         return is_quiet(q, clusters, size, cols, k, g, levels);
     }
-    if i == 0 {
-        return true;
-    }
-    if i + k < limit {
+    if i < left {
         return true;
     }
     let rows = clusters * size + clusters;
     let j = i - 1;
-    if !descend(q, rows, cols, k + 1, j, levels) {
+    if descend(q, rows, cols, k + 1, j, levels) {
+        let h = g + (1u16 << j as u32);
+        if grow(q, clusters, size, limit, cols, j, k + 1, h, levels) {
+            return grow(q, clusters, size, limit, cols, j, k, g, levels);
+        }
         return false;
     }
-    let h = g + (1u16 << j as u32);
-    if !grow(q, clusters, size, limit, cols, j, k + 1, h, levels) {
-        return false;
-    }
-    grow(q, clusters, size, limit, cols, j, k, g, levels)
+    false
 }
 
 // Whether they all pass, from nobody on.
@@ -106,8 +104,8 @@ pub fn accepts(plan: Plan, table: &[Symbol]) -> bool
     ensures { λ r. ⌜ r ≡ isAccepted (vetCode plan (now (table .entry))) ⌝ }
 {
     let before = check_before(plan, table, Joint::None);
-    if before.is_accepted() {
-        return largest_pass(plan, table);
+    if !before.is_accepted() {
+        return false;
     }
-    false
+    largest_pass(plan, table)
 }

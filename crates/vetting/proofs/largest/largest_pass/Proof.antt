@@ -19,7 +19,7 @@ grow-requires c κs =
     let w = bounds (c .before .before .before .before .before .before) in
     let few = w .counts .few-users in
     let sized = c .before .before .before .set-base .ensures .0 in
-    (sized, w .counts .few-clusters, w .counts .few-size, few, w .few-symbols, omega arith, omega (arith, pow-mono few))
+    (sized, w .counts .few-clusters, w .counts .few-size, few, w .few-symbols, omega arith, omega arith, omega (arith, pow-mono few))
 
 returns : tie.Need-returns
 returns c =
