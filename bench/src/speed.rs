@@ -56,8 +56,8 @@ fn measure_at(q: Symbol) -> bool {
     met
 }
 
-/// The least times of dealing one block: now, and as it was when the vet made its whole walk first. That is the vet's time, and what dealing takes beside asking
-/// whether the plan is accepted.
+/// The least times of dealing one block: now, and as it was when the vet made its whole walk first. That is the vet's time, and what
+/// dealing takes beside asking whether the plan is accepted.
 fn dealing(plan: &Plan, runs: usize) -> (f64, f64) {
     let source = vec![plan.q - 1; LONGEST * plan.rate];
     let mut keys = vec![0; LONGEST * plan.clusters * plan.size];

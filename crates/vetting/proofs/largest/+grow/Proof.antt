@@ -2,7 +2,6 @@
 use Prim.Native.Nat.{ℕ, _+_, _-_, _*_, _<_}
 use mathlib.Core.Path.{_≡_, refl, _∙_}
 use mathlib.Core.List.{List}
-use native.Mathlib.Nat.{pos-of-ne-zero}
 use native.Mathlib.Omega.{arith}
 use lib.ListN.{length}
 use lib.Pow.{pow-pos}
@@ -40,16 +39,15 @@ step : (t : ℕ) (c : lts.Else2 (calls t) (grow-at t) grow.Post)
     → (let a = c .before .before .before .args in Step (a .q) (a .clusters) (a .size) (a .limit) (a .cols) (a .i) (a .k) (a .g) (a .levels .now))
 step t c =
     let p = c .before .before .before .pre .1 in
-    let more = c .before .if1 .left in
     record {
       len = p .0;
       few = p .1;
       users = p .3;
       narrow = p .4;
-      within = omega (arith, p .5, pos-of-ne-zero more);
+      within = omega (arith, p .5, c .before .if1 .left);
       low = p .6;
       room = p .7;
-      some = omega (arith, pos-of-ne-zero more, c .if2 .left);
+      some = omega (arith, c .before .if1 .left, c .if2 .left);
       enough = omega (arith, p .5, c .if2 .left);
     }
 
