@@ -3,13 +3,14 @@ use crate::network::heard;
 use crate::network::total_of;
 use arithmetic::Symbol;
 use networks::Ring;
-use std::num::wrapping_add_u16;
+use std::num::wrapping_add_u32;
 use std::num::wrapping_add_usize;
 use testing::mul_add;
 use testing::narrow;
 use testing::product;
 use testing::quotient;
 use testing::residue;
+use testing::same;
 use testing::wide;
 
 // More than the views of an observer of a tiny network.
@@ -69,14 +70,14 @@ fn numbers(
     weights: &[Symbol],
     observer: usize,
     n: usize,
-) -> [u16; VIEWS] {
+) -> [Symbol; VIEWS] {
     let many = sets(wide(ring.q), ring.rate);
     let readings = digits(wide(ring.q), n);
-    let mut tally = [0u16; VIEWS];
+    let mut tally = [0 as Symbol; VIEWS];
     for x in 0..many {
         let source = digits(wide(ring.q), x);
         let v = view_of(ring, table, weights, &readings, &source, observer) % VIEWS;
-        tally[v] = wrapping_add_u16(tally[v], 1);
+        tally[v] = wrapping_add_u32(tally[v], 1);
     }
     tally
 }
@@ -97,22 +98,13 @@ fn agreeing(ring: Ring, observer: usize, n: usize) -> usize {
     number
 }
 
-fn differ(a: [u16; VIEWS], b: [u16; VIEWS]) -> bool {
-    for v in 0..VIEWS {
-        if a[v] != b[v] {
-            return true;
-        }
-    }
-    false
-}
-
 // Equal numbers are an equivalence, so that it is enough to compare with one.
 fn leaks(ring: Ring, table: &[Symbol], weights: &[Symbol], observer: usize) -> bool {
     let many = sets(wide(ring.q), product(ring.size, ring.parts));
     for n in 0..many {
         let here = numbers(ring, table, weights, observer, n);
         let there = numbers(ring, table, weights, observer, agreeing(ring, observer, n));
-        if differ(here, there) {
+        if !same(&here, &there) {
             return true;
         }
     }

@@ -18,7 +18,7 @@ use crate::expected::number_of;
 use crate::expected::refused;
 use crate::expected::rest_fits;
 use crate::network::heard;
-use crate::network::total_of;
+use crate::network::totals_of;
 use crate::solving::COLUMNS;
 use crate::solving::decides;
 use crate::worlds;
@@ -130,7 +130,7 @@ fn searched(
     if !worlds::decides(ring, table, weights, reported) {
         return lent(ring, l, table, weights, reported, sums, 23, &before);
     }
-    let expected = worlds::totals(ring, table, weights, reported, sums, BEFORE);
+    let expected = worlds::totals(ring, table, weights, reported, sums);
     lent(ring, l, table, weights, reported, sums, mistake, &expected)
 }
 
@@ -172,15 +172,6 @@ fn sums_of(
     t
 }
 
-// Of the readings; where they cannot be had, what stands in the buffer before.
-fn totals_of(ring: Ring, readings: &[Symbol], found: bool) -> [Symbol; TOTALS] {
-    let mut t = [BEFORE; TOTALS];
-    for s in 0..TOTALS {
-        t[s] = narrow(over(found, total_of(ring, readings, s), wide(BEFORE)));
-    }
-    t
-}
-
 // Totals are the readings' own where they can be had.
 fn solved(
     ring: Ring,
@@ -191,11 +182,13 @@ fn solved(
     sums: &[Symbol],
     readings: &[Symbol],
 ) -> usize {
-    let found = decides(ring, table, weights, reported);
-    let expected = totals_of(ring, readings, found);
+    let before = [BEFORE; TOTALS];
+    let expected = totals_of(ring, readings);
     let l = lengths_of(ring, x, false);
-    let number = over(found, 0, 23);
-    lent(ring, l, table, weights, reported, sums, number, &expected)
+    if decides(ring, table, weights, reported) {
+        return lent(ring, l, table, weights, reported, sums, 0, &expected);
+    }
+    lent(ring, l, table, weights, reported, sums, 23, &before)
 }
 
 // A network of every size, with the sums of readings.

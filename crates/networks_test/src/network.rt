@@ -1,4 +1,5 @@
 // The network by the papers' words: a user's relays are found by going down from its own, one after the other, and from 1 to K. Counted from 0.
+use crate::expected::TOTALS;
 use arithmetic::Symbol;
 use networks::Ring;
 use std::num::wrapping_add_usize;
@@ -6,6 +7,7 @@ use std::num::wrapping_sub_usize;
 use testing::at;
 use testing::clip;
 use testing::mul_add;
+use testing::narrow;
 use testing::product;
 use testing::product_mod;
 use testing::residue;
@@ -112,4 +114,13 @@ pub fn total_of(ring: Ring, readings: &[Symbol], s: usize) -> usize {
         sum = plus(wide(ring.q), sum, at(readings, mul_add(s, k, ring.parts)));
     }
     sum
+}
+
+// All totals; past the last there is something that nobody looks at.
+pub fn totals_of(ring: Ring, readings: &[Symbol]) -> [Symbol; TOTALS] {
+    let mut t = [0 as Symbol; TOTALS];
+    for s in 0..TOTALS {
+        t[s] = narrow(total_of(ring, readings, s));
+    }
+    t
 }

@@ -5,12 +5,11 @@ use crate::counting::sets;
 use crate::expected::TOTALS;
 use crate::network::heard;
 use crate::network::total_of;
+use crate::network::totals_of;
 use arithmetic::Symbol;
 use networks::Ring;
 use std::num::wrapping_add_usize;
 use testing::at;
-use testing::narrow;
-use testing::over;
 use testing::product;
 use testing::quotient;
 use testing::residue;
@@ -123,30 +122,18 @@ pub fn decides(ring: Ring, table: &[Symbol], weights: &[Symbol], reported: usize
     find(ring, table, weights, reported, &zeros, ring.size) == worlds(ring)
 }
 
-// The totals of any readings and source key that give the sums of the relays that are kept; past them what was there before.
+// The totals of any readings and source key that give the sums of the relays that are kept.
 pub fn totals(
     ring: Ring,
     table: &[Symbol],
     weights: &[Symbol],
     reported: usize,
     sums: &[Symbol],
-    before: Symbol,
 ) -> [Symbol; TOTALS] {
     let first = sets(wide(ring.q), product(ring.size, ring.parts));
     let mask = kept(ring, table, weights, reported);
-    let n = find(
-        ring,
-        table,
-        weights,
-        mask,
-        sums,
-        wrapping_add_usize(ring.size, 1),
-    );
+    let any = wrapping_add_usize(ring.size, 1);
+    let n = find(ring, table, weights, mask, sums, any);
     let readings = digits(wide(ring.q), residue(n, first));
-    let mut out = [before; TOTALS];
-    for s in 0..TOTALS {
-        let total = total_of(ring, &readings, s);
-        out[s] = narrow(over(s < ring.parts, total, wide(before)));
-    }
-    out
+    totals_of(ring, &readings)
 }

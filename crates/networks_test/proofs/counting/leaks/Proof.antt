@@ -27,4 +27,6 @@ leaks-spec =
     (search needs)
     (search needs)
     (search needs)
+    (search needs)
+    (search needs)
     (search needs))
