@@ -8,12 +8,13 @@ ghost use Rattle.keys.specs.Maker.{makerCode, makerTable};
 ghost use Rattle.keys.specs.Keys.{keyCode, keysAfter};
 ghost use Rattle.masking.specs.Blocks.{blockCode, uploadAfter, unmaskAfter};
 ghost use Rattle.rounds.specs.Ledger.{frame};
-ghost use Rattle.exports.specs.Packed.{packed};
+ghost use Rattle.boundary.specs.Packed.{packed};
 ghost use Rattle.rounds.specs.Relays.{relayCode, relayNext, relayGiveCode, relaySums, moveCode, moved};
 ghost use Rattle.exports.specs.States.{stateOf};
 ghost use Rattle.reports.specs.Program.{programCode};
 ghost use Rattle.exports.specs.Reading.{countsOf, entryCode, entryTable, entryCounts};
 use arithmetic::Symbol;
+use boundary::pack;
 use plans::Plan;
 use plans::Planned;
 use refusals::Code;
@@ -23,13 +24,6 @@ use refusals::verdict_code;
 use rounds::Held;
 use rounds::RelayRound;
 use rounds::Round;
-
-// A code as one number, 16 bits for each of its three.
-fn pack(code: Code) -> u64
-    ensures { λ r. ⌜ r ≡ packed code ⌝ }
-{
-    code.number as u64 + 65536 * code.first as u64 + 65536 * 65536 * code.second as u64
-}
 
 // The number and details of an answer, without its plan: the table maker's caller has given all of it but R, which follows, and the reader's is handed it in
 // five places.
