@@ -1,0 +1,2 @@
+-- Entries of cyclic networks for other languages. Counts has a network's ring from the numbers that a caller lends.
+pub mod Counts
