@@ -1,6 +1,6 @@
 fn main() {
     let root = std::env::var("CARGO_MANIFEST_DIR").unwrap();
     println!("cargo:rustc-link-search=native={root}/../target/staticlib");
-    println!("cargo:rustc-link-lib=static=exports");
-    println!("cargo:rerun-if-changed={root}/../target/staticlib/libexports.a");
+    println!("cargo:rustc-link-lib=static=kortyghai");
+    println!("cargo:rerun-if-changed={root}/../target/staticlib/libkortyghai.a");
 }

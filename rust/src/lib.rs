@@ -1,10 +1,10 @@
 //! Kortyghai, the secure-aggregation core of a power pool, for callers in Rust.
 //!
-//! The work is done by functions in the archive `libexports.a`, each proved to meet its contract; this crate hands them slices
+//! The work is done by functions in the archive `libkortyghai.a`, each proved to meet its contract; this crate hands them slices
 //! and turns their answers into `Result`. It adds no rules: what is refused, and in which order, is decided there. A refused
 //! call writes nothing.
 //!
-//! Build the archive first, by `rt staticlib exports` at the top of the repository.
+//! Build the archive first, by `./archive` at the top of the repository.
 //!
 //! ```
 //! // two clusters of two users, coalitions of at most one, q 5
