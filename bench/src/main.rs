@@ -10,6 +10,7 @@ mod proved;
 mod rounds;
 mod speed;
 mod tally;
+mod windows;
 
 /// A whole number below a plan's prime q, and q itself.
 pub type Symbol = u32;
@@ -44,9 +45,9 @@ fn main() {
     let words: Vec<String> = std::env::args().skip(1).collect();
     let words: Vec<&str> = words.iter().map(String::as_str).collect();
     let right = match words[..] {
-        [] => (tally::compare() == 0) & speed::measure() & rounds::measure() & primes::measure(),
+        [] => (tally::compare() == 0) & speed::measure() & rounds::measure() & windows::measure() & primes::measure(),
         ["compare"] => tally::compare() == 0,
-        ["speed"] => speed::measure() & rounds::measure(),
+        ["speed"] => speed::measure() & rounds::measure() & windows::measure(),
         ["primes"] => primes::measure(),
         ["every_number"] => every_number::compare(0, 1 << 32) == 0,
         ["every_number", from, to] => every_number::compare(every_number::bound(from), every_number::bound(to)) == 0,

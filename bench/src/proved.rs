@@ -1,6 +1,7 @@
 //! The proved functions, as a caller outside the language sees them: a slice is its address and its length.
 
 use crate::rounds::Relay;
+use crate::windows::{Window, PLACES};
 use crate::{Code, Plan, Symbol};
 
 extern "C" {
@@ -50,6 +51,10 @@ extern "C" {
         ahead: *mut u16,
         held: *mut [Symbol; 64],
     ) -> u64;
+    fn kortyghai_window_open(span: usize, held: *mut usize, sum: *mut i64, totals: *mut [i32; PLACES]) -> u64;
+    fn kortyghai_window_push(span: usize, held: *mut usize, sum: *mut i64, totals: *mut [i32; PLACES], total: i32) -> u64;
+    fn kortyghai_window_sum(span: usize, held: usize, sum: i64, totals: *const [i32; PLACES], out: *mut i64) -> u64;
+    fn kortyghai_window_largest(span: usize, held: usize, sum: i64, totals: *const [i32; PLACES], out: *mut i32) -> u64;
 }
 
 fn unpack(packed: u64) -> Code {
@@ -135,4 +140,20 @@ pub fn advance(r: &mut Relay) -> Code {
             &mut r.held,
         )
     })
+}
+
+pub fn window_open(w: &mut Window) -> Code {
+    unpack(unsafe { kortyghai_window_open(w.span, &mut w.held, &mut w.sum, &mut w.totals) })
+}
+
+pub fn window_push(w: &mut Window, total: i32) -> Code {
+    unpack(unsafe { kortyghai_window_push(w.span, &mut w.held, &mut w.sum, &mut w.totals, total) })
+}
+
+pub fn window_sum(w: &Window, out: &mut i64) -> Code {
+    unpack(unsafe { kortyghai_window_sum(w.span, w.held, w.sum, &w.totals, out) })
+}
+
+pub fn window_largest(w: &Window, out: &mut i32) -> Code {
+    unpack(unsafe { kortyghai_window_largest(w.span, w.held, w.sum, &w.totals, out) })
 }

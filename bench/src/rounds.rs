@@ -7,7 +7,7 @@ use crate::{proved, Code, Plan, Symbol, LARGE_PRIMES};
 use std::hint::black_box;
 
 /// What the proved functions may take, of the plain ones' time.
-const BAR: f64 = 1.2;
+pub const BAR: f64 = 1.2;
 
 /// A relay's round, with what it holds for the next one.
 #[derive(Clone, PartialEq, Debug)]
@@ -211,7 +211,7 @@ fn keys_at_once(plan: &Plan, length: usize, source: &[Symbol], out: &mut [Symbol
 }
 
 /// The least time of one call, of several turns; each turn makes many calls.
-fn least<const N: usize>(calls: usize, turns: usize, mut f: [&mut dyn FnMut(usize); N]) -> [f64; N] {
+pub fn least<const N: usize>(calls: usize, turns: usize, mut f: [&mut dyn FnMut(usize); N]) -> [f64; N] {
     let mut times = [f64::MAX; N];
     for _ in 0..turns {
         for (time, f) in times.iter_mut().zip(f.iter_mut()) {
@@ -223,7 +223,8 @@ fn least<const N: usize>(calls: usize, turns: usize, mut f: [&mut dyn FnMut(usiz
     times
 }
 
-fn line(name: &str, unit: f64, proved: f64, plain: f64) -> bool {
+/// Prints a row; whether the bar is met.
+pub fn line(name: &str, unit: f64, proved: f64, plain: f64) -> bool {
     println!("{name:54}{:12.2}{:11.2}{:8.2}", proved * unit, plain * unit, proved / plain);
     proved <= BAR * plain
 }

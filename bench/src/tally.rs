@@ -109,8 +109,8 @@ fn compare_vets(s: &mut Seeded, plans: usize) -> usize {
 }
 
 /// How often each number was answered.
-pub fn counted(numbers: &[usize; 15]) -> String {
-    let all: Vec<String> = (0..15).filter(|&n| numbers[n] > 0).map(|n| format!("{n}: {}", numbers[n])).collect();
+pub fn counted(numbers: &[usize]) -> String {
+    let all: Vec<String> = (0..numbers.len()).filter(|&n| numbers[n] > 0).map(|n| format!("{n}: {}", numbers[n])).collect();
     all.join(", ")
 }
 
@@ -177,5 +177,9 @@ fn compare_keys(s: &mut Seeded, calls: usize) -> usize {
 /// How many answers differ in all.
 pub fn compare() -> usize {
     let mut s = Seeded(7);
-    compare_vets(&mut s, 20_000) + compare_makers(&mut s, 10_000) + compare_keys(&mut s, 10_000) + crate::rounds::compare(&mut s, 20_000)
+    compare_vets(&mut s, 20_000)
+        + compare_makers(&mut s, 10_000)
+        + compare_keys(&mut s, 10_000)
+        + crate::rounds::compare(&mut s, 20_000)
+        + crate::windows::compare(&mut s, 20_000)
 }
