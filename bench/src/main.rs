@@ -4,6 +4,8 @@
 
 mod every_number;
 mod examples;
+mod network_runs;
+mod networks;
 mod plain;
 mod primes;
 mod proved;
@@ -41,13 +43,20 @@ impl Plan {
     }
 }
 
+/// Whether every bar is met.
+fn times() -> bool {
+    let met = speed::measure() & rounds::measure() & windows::measure();
+    network_runs::measure();
+    met
+}
+
 fn main() {
     let words: Vec<String> = std::env::args().skip(1).collect();
     let words: Vec<&str> = words.iter().map(String::as_str).collect();
     let right = match words[..] {
-        [] => (tally::compare() == 0) & speed::measure() & rounds::measure() & windows::measure() & primes::measure(),
+        [] => (tally::compare() == 0) & times() & primes::measure(),
         ["compare"] => tally::compare() == 0,
-        ["speed"] => speed::measure() & rounds::measure() & windows::measure(),
+        ["speed"] => times(),
         ["primes"] => primes::measure(),
         ["every_number"] => every_number::compare(0, 1 << 32) == 0,
         ["every_number", from, to] => every_number::compare(every_number::bound(from), every_number::bound(to)) == 0,

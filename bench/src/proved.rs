@@ -1,5 +1,6 @@
 //! The proved functions, as a caller outside the language sees them: a slice is its address and its length.
 
+use crate::networks::Network;
 use crate::rounds::Relay;
 use crate::windows::{Window, PLACES};
 use crate::{Code, Plan, Symbol};
@@ -55,6 +56,31 @@ extern "C" {
     fn kortyghai_window_push(span: usize, held: *mut usize, sum: *mut i64, totals: *mut [i32; PLACES], total: i32) -> u64;
     fn kortyghai_window_sum(span: usize, held: usize, sum: i64, totals: *const [i32; PLACES], out: *mut i64) -> u64;
     fn kortyghai_window_largest(span: usize, held: usize, sum: i64, totals: *const [i32; PLACES], out: *mut i32) -> u64;
+    fn kortyghai_network_vet(counts: *const [Symbol; 5], table: *const Symbol, symbols: usize, weights: *const Symbol, given: usize) -> u64;
+    fn kortyghai_network_upload(
+        counts: *const [Symbol; 5],
+        weights: *const Symbol,
+        given: usize,
+        user: usize,
+        relay: usize,
+        reading: *const Symbol,
+        symbols: usize,
+        key: Symbol,
+        out: *mut Symbol,
+    ) -> u64;
+    fn kortyghai_network_sum(counts: *const [Symbol; 5], uploads: *const Symbol, symbols: usize, out: *mut Symbol) -> u64;
+    fn kortyghai_network_decode(
+        counts: *const [Symbol; 5],
+        table: *const Symbol,
+        symbols: usize,
+        weights: *const Symbol,
+        given: usize,
+        reported: u16,
+        sums: *const Symbol,
+        heard: usize,
+        out: *mut Symbol,
+        lent: usize,
+    ) -> u64;
 }
 
 fn unpack(packed: u64) -> Code {
@@ -156,4 +182,39 @@ pub fn window_sum(w: &Window, out: &mut i64) -> Code {
 
 pub fn window_largest(w: &Window, out: &mut i32) -> Code {
     unpack(unsafe { kortyghai_window_largest(w.span, w.held, w.sum, &w.totals, out) })
+}
+
+/// K, d, n, R and q.
+fn counts(net: &Network) -> [Symbol; 5] {
+    [net.size as Symbol, net.links as Symbol, net.parts as Symbol, net.rate as Symbol, net.q]
+}
+
+pub fn network_vet(net: &Network) -> Code {
+    unpack(unsafe { kortyghai_network_vet(&counts(net), net.table.as_ptr(), net.table.len(), net.weights.as_ptr(), net.weights.len()) })
+}
+
+pub fn network_upload(net: &Network, user: usize, relay: usize, reading: &[Symbol], key: Symbol, out: &mut Symbol) -> Code {
+    let (weights, given) = (net.weights.as_ptr(), net.weights.len());
+    unpack(unsafe { kortyghai_network_upload(&counts(net), weights, given, user, relay, reading.as_ptr(), reading.len(), key, out) })
+}
+
+pub fn network_sum(net: &Network, uploads: &[Symbol], out: &mut Symbol) -> Code {
+    unpack(unsafe { kortyghai_network_sum(&counts(net), uploads.as_ptr(), uploads.len(), out) })
+}
+
+pub fn network_decode(net: &Network, reported: u16, sums: &[Symbol], out: &mut [Symbol]) -> Code {
+    unpack(unsafe {
+        kortyghai_network_decode(
+            &counts(net),
+            net.table.as_ptr(),
+            net.table.len(),
+            net.weights.as_ptr(),
+            net.weights.len(),
+            reported,
+            sums.as_ptr(),
+            sums.len(),
+            out.as_mut_ptr(),
+            out.len(),
+        )
+    })
 }

@@ -182,4 +182,5 @@ pub fn compare() -> usize {
         + compare_keys(&mut s, 10_000)
         + crate::rounds::compare(&mut s, 20_000)
         + crate::windows::compare(&mut s, 20_000)
+        + crate::network_runs::compare(&mut s, 2_000)
 }
