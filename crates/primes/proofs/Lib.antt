@@ -1,4 +1,5 @@
 pub mod Sizes
+pub mod Words
 pub mod Powers
 pub mod Exact
 pub mod Lookup

@@ -1,5 +1,5 @@
-// Whether a number of 32 bits is prime: by divisors while they are cheap, then by one power of 2, and last by a list. Of the numbers with no divisor below
-// 1,627 whose power says that they may be primes, the list has those that are none (the crate pseudoprimes).
+// Whether a number of 32 bits is prime: a small one by a bit, others by divisors while they are cheap, then by one power of 2, and last by a list. Of the
+// numbers with no divisor below 1,627 whose power says that they may be primes, the list has those that are none (the crate pseudoprimes).
 ghost use mathlib.Core.Path.{_≡_};
 ghost use Prim.Native.Nat.{_-_, _*_, _%_, _^_, _≤_, _<_};
 ghost use Rattle.residues.specs.Primes.{isPrime};
@@ -9,8 +9,19 @@ mod listed;
 
 use listed::large_prime;
 
-// Below this, odd divisors up to the root are the quickest. Not much less would do: the first table goes up to 251, and each prime divides itself.
+// Below this, a bit tells. Not much less would do: the first table of divisors goes up to 251, and each prime divides itself.
 const SMALL: u32 = 256;
+
+// The primes below 256, each a bit of a word, the lowest for the least number. The words stand in the code: a table would be written to the stack at each call.
+const WORD_BITS: u32 = 64;
+
+const FROM_0: u64 = 0x28208a20a08a28ac;
+
+const FROM_64: u64 = 0x800228a202088288;
+
+const FROM_128: u64 = 0x8028208820a00a08;
+
+const FROM_192: u64 = 0x08028228800800a2;
 
 // The highest 5 of 32 bits are an exponent below 32, whose power is a shift; the 27 after them are taken one by one.
 const LATER_BITS: u32 = 27;
@@ -44,32 +55,27 @@ pub(crate) fn power_of_two(q: u32) -> u32
     x as u32
 }
 
-// By odd divisors up to the root.
 fn small_prime(q: u32) -> bool
-    requires { ⌜ (2 ≤ q) × (q < 256) × (q % 2 ≡ 1) ⌝ }
+    requires { ⌜ q < 256 ⌝ }
     ensures { λ r. ⌜ r ≡ isPrime q ⌝ }
 {
-    let mut d: u32 = 3;
-    while d * d <= q {
-        if q % d == 0 {
-            return false;
-        }
-        d += 2;
-    }
-    true
+    let word = match q / WORD_BITS {
+        0 => FROM_0,
+        1 => FROM_64,
+        2 => FROM_128,
+        _ => FROM_192,
+    };
+    (word >> (q % WORD_BITS)) % 2 == 1
 }
 
 pub fn is_prime(q: u32) -> bool
     ensures { λ r. ⌜ r ≡ isPrime q ⌝ }
 {
-    if q < 2 {
-        return false;
-    }
-    if q % 2 == 0 {
-        return q == 2;
-    }
     if q < SMALL {
         return small_prime(q);
+    }
+    if q % 2 == 0 {
+        return false;
     }
     large_prime(q)
 }
