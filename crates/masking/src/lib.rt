@@ -44,8 +44,8 @@ fn write_unmasked(q: Symbol, upload: &[Symbol], key: &[Symbol], out: &mut [Symbo
     }
 }
 
-// The refusals of both: they ask the same of their blocks. The last test ends at the first number that is no symbol, so its time tells
-// where that stands; of symbols it tells nothing.
+// The refusals of both: they ask the same of their blocks. The last test goes through a whole block whatever stands in it; its time tells at most which block
+// has a number that is no symbol.
 fn check_blocks(q: Symbol, length: usize, a: &[Symbol], b: &[Symbol], out: &[Symbol]) -> Verdict
     ensures { λ r. ⌜ verdictCode r ≡ blockCode q length (now (a .entry)) (now (b .entry)) (now (out .entry)) ⌝ }
 {
