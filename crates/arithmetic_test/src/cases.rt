@@ -53,12 +53,10 @@ pub const DRAWN: u64 = 6400;
 // How many moduli the tests are given: each of 16 bits, those near the notable ones, and as many drawn ones.
 pub const MODULI: u64 = OF_16_BITS + 2 * NEAR;
 
-// How many refusals there are, and how many inputs: a thousand of each. No refusal has the number in the gap.
-const REFUSALS: u64 = 22;
+// How many refusals there are, and how many inputs: a thousand of each.
+const REFUSALS: u64 = 23;
 
-const GAP: u64 = 18;
-
-pub const CODES: u64 = 22000;
+pub const CODES: u64 = 23000;
 
 // Every q below 60 with every a to 60, then with every b to 60 too, then with every fifth m. So q and q + 1 are always among the numbers.
 fn small_case(k: u64, seed: u64) -> Case {
@@ -168,13 +166,9 @@ fn every_modulus(k: u64) -> Symbol {
     low32(two_steps(step(k)))
 }
 
-// The numbers of all refusals in turn: 1 to 17, then 19 to 23.
+// The numbers of all refusals in turn: 1 to 23.
 fn catalogued(k: u64) -> Symbol {
-    let number = k % REFUSALS + 1;
-    if number < GAP {
-        return low32(number);
-    }
-    low32(number + 1)
+    low32(k % REFUSALS + 1)
 }
 
 // For the catalogue q is the number of a refusal, and a and b are its details.

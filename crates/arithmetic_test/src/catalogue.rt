@@ -39,6 +39,7 @@ fn refusal(number: u16, first: u16, second: u16) -> Refusal {
         15 => Refusal::OutsideCap,
         16 => Refusal::BadCap,
         17 => Refusal::BadWindow,
+        18 => Refusal::BadRounds,
         19 => Refusal::JointLeaks { coalition: first },
         20 => Refusal::PastLimit,
         21 => Refusal::BadStock,
