@@ -1,26 +1,28 @@
 -- Individual keys: what each user's row makes, where each key stands in the derived list, and what the checks say.
 use Prim.Native.Nat.{ℕ, _+_, _*_, _%_, _≤_, _<_}
 use mathlib.Core.Path.{_≡_, refl, sym, ap, ap₂, _∙_}
-use mathlib.Core.Bool.{Bool, not, _&&_}
+use mathlib.Core.Bool.{Bool, true, _&&_}
 use mathlib.Core.List.{List, [], _∷_}
 use native.Mathlib.Omega.{arith}
 use lib.ListN.{length, take, drop}
 use lib.Dec.{eqb, eqb→eq}
 use borrow.Author.Tests.{not-false}
 use Rattle.refusals.specs.declared.Code.{Code}
-use Rattle.refusals.specs.Codes.{code, accepted, firstOf, ifAccepted}
+use Rattle.refusals.specs.Codes.{accepted, firstOf, ifAccepted}
 use Rattle.refusals.proofs.CodeLaws.{none-holds, accepted-takes}
-use Rattle.residues.specs.Primes.{allBelow}
+use Rattle.residues.specs.Primes.{Prime}
 use Rattle.lists.proofs.Searches.{true→T, T-and}
 use Rattle.lists.specs.Lists.{at, tab, joinTo}
 use Rattle.secrecy.specs.Model.{sumSoFar, key}
 use Rattle.lists.proofs.Sums.{sum-cong}
 use Rattle.lists.proofs.ListLaws.{at-tab, length-tab, tab-cong}
 use Rattle.plans.specs.declared.Plan.{Plan}
-use Rattle.plans.specs.Plans.{usersOf, lengthFits}
+use Rattle.plans.specs.Plans.{usersOf, inBounds, tableChecks}
+use Rattle.plans.proofs.PlanBounds.{Bounds, bounds-known}
+use Rattle.plans.proofs.TableLaws.{Passed, table-passed}
 use Rattle.vetting.specs.Pools.{poolOf}
 use Rattle.vetting.specs.Vet.{vetChecks}
-use Rattle.keys.specs.Keys.{keysOf, keyChecks}
+use Rattle.keys.specs.Keys.{keysOf, blockChecks, keyChecks, unvettedChecks}
 use Rattle.refusals.proofs.Orders.{rest-decides, first-accepts}
 use Rattle.vetting.proofs.PlanLaws.{Vetted, vetted, vet-numbered}
 use Rattle.lists.proofs.Fronts.{length-part, part-at}
@@ -75,33 +77,48 @@ keys-at P K L N i p h l =
 
 -- ---- the checks
 
--- those after the vet's
-abbrev pub blockChecks : Plan → ℕ → List ℕ → List ℕ → List (Bool × Code)
-blockChecks P L N out =
-    (not (lengthFits L), code 9)
-    ∷ (not (eqb (length N) (L * P .rate) && eqb (length out) (usersOf P * L)), code 4)
-    ∷ (not (allBelow (P .q) N), code 3)
-    ∷ []
+-- a plan that the vet accepts is within its bounds
+pub vet-bounds : (P : Plan) (K : List ℕ) → accepted ≡ firstOf (vetChecks P K) → inBounds P ≡ true
+vet-bounds P K e = not-false (inBounds P) (none-holds (vetChecks P K) (vet-numbered P K) e .0)
 
 module _ (P : Plan) (K : List ℕ) (L : ℕ) (N out : List ℕ) where
-  -- they decide where the vet accepts
+  -- those of the blocks decide where the vet accepts
   pub blocks-decide : accepted ≡ firstOf (vetChecks P K) → firstOf (blockChecks P L N out) ≡ firstOf (keyChecks P K L N out)
   blocks-decide = rest-decides (vetChecks P K) (blockChecks P L N out) (vet-numbered P K)
 
-  -- what holds where all accept
+  -- what holds where all accept, those of the plan and those of the blocks
   pub record Derivable : Type 0 where
-    pub plan : Vetted P K
+    pub prime : Prime (P .q)
+    pub few-users : usersOf P ≤ 16
+    pub size : length K ≡ usersOf P * P .rate
     pub source : length N ≡ L * P .rate
     pub room : length out ≡ usersOf P * L
 
-  pub derivable : accepted ≡ firstOf (keyChecks P K L N out) → Derivable
-  derivable e =
-      let v : accepted ≡ firstOf (vetChecks P K) = first-accepts (vetChecks P K) (blockChecks P L N out) (vet-numbered P K) e in
-      let w = none-holds (blockChecks P L N out) tt (e ∙ sym (blocks-decide v)) in
+  writable : Bounds P → length K ≡ usersOf P * P .rate → Prime (P .q) → accepted ≡ firstOf (blockChecks P L N out) → Derivable
+  writable b size prime e =
+      let w = none-holds (blockChecks P L N out) tt e in
       let (source, room) = T-and (eqb (length N) (L * P .rate)) (eqb (length out) (usersOf P * L))
       (true→T (eqb (length N) (L * P .rate) && eqb (length out) (usersOf P * L))
       (not-false (eqb (length N) (L * P .rate) && eqb (length out) (usersOf P * L)) (w .1 .0))) in
-      record { plan = vetted P K v; source = eqb→eq (length N) (L * P .rate) source; room = eqb→eq (length out) (usersOf P * L) room }
+      record {
+        prime = prime;
+        few-users = b .counts .few-users;
+        size = size;
+        source = eqb→eq (length N) (L * P .rate) source;
+        room = eqb→eq (length out) (usersOf P * L) room;
+      }
+
+  pub derivable : accepted ≡ firstOf (keyChecks P K L N out) → Derivable
+  derivable e =
+      let told : accepted ≡ firstOf (vetChecks P K) = first-accepts (vetChecks P K) (blockChecks P L N out) (vet-numbered P K) e in
+      let v : Vetted P K = vetted P K told in
+      writable (v .bounds) (v .size) (v .prime) (e ∙ sym (blocks-decide told))
+
+  pub unvetted-derivable : accepted ≡ firstOf (unvettedChecks P K L N out) → Derivable
+  unvetted-derivable e =
+      let p : Passed P K = table-passed P K (blockChecks P L N out) tt e in
+      let told : accepted ≡ firstOf (tableChecks P K) = first-accepts (tableChecks P K) (blockChecks P L N out) tt e in
+      writable (bounds-known P (p .bounds)) (p .size) (p .prime) (e ∙ sym (rest-decides (tableChecks P K) (blockChecks P L N out) tt told))
 
   -- after an acceptance the key of user i in position p stands at index i L + p of what the call leaves
   pub derived-key : accepted ≡ firstOf (keyChecks P K L N out) → (i p : ℕ) → i < usersOf P → p < L

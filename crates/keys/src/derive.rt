@@ -2,14 +2,16 @@
 ghost use mathlib.Core.Path.{_≡_};
 ghost use Prim.Native.Nat.{_+_, _*_, _<_, _≤_};
 ghost use lib.ListN.{length};
-ghost use Rattle.refusals.specs.Codes.{verdictCode};
+ghost use mathlib.Core.Bool.{true};
+ghost use Rattle.refusals.specs.Codes.{firstOf, verdictCode};
 ghost use Rattle.lists.specs.Lists.{at, tab};
 ghost use Rattle.secrecy.specs.Model.{sumSoFar};
-ghost use Rattle.plans.specs.Plans.{usersOf};
-ghost use Rattle.keys.specs.Keys.{keysOf, keyCode, keysAfter};
+ghost use Rattle.plans.specs.Plans.{usersOf, inBounds};
+ghost use Rattle.keys.specs.Keys.{keysOf, blockChecks, keyCode, keysAfter, unvettedCode, unvettedAfter};
 use crate::verdict::verdict_on;
 use arithmetic::Symbol;
 use plans::Plan;
+use plans::check_plan;
 use plans::length_fits;
 use refusals::Refusal;
 use refusals::Verdict;
@@ -80,6 +82,23 @@ fn write_keys(
     }
 }
 
+// The blocks of a plan within its bounds: 9, 4, 3.
+fn check_blocks(plan: Plan, length: usize, source: &[Symbol], keys: &[Symbol]) -> Verdict
+    requires { ⌜ inBounds plan ≡ true ⌝ }
+    ensures { λ r. ⌜ verdictCode r ≡ firstOf (blockChecks plan length (now (source .entry)) (now (keys .entry))) ⌝ }
+{
+    if !length_fits(length) {
+        return Verdict::Refused(Refusal::BadBlockLength);
+    }
+    if source.len() != length * plan.rate || keys.len() != plan.clusters * plan.size * length {
+        return Verdict::Refused(Refusal::WrongLength);
+    }
+    if !arithmetic::all_below(plan.q, source) {
+        return Verdict::Refused(Refusal::NotASymbol);
+    }
+    Verdict::Accepted
+}
+
 // The vet's refusals first, then those of the blocks.
 fn check_keys(
     plan: Plan,
@@ -94,16 +113,24 @@ fn check_keys(
     if !vetted.is_accepted() {
         return vetted;
     }
-    if !length_fits(length) {
-        return Verdict::Refused(Refusal::BadBlockLength);
+    check_blocks(plan, length, source, keys)
+}
+
+// The refusals of plan and table first, without the vet's own.
+fn check_unvetted(
+    plan: Plan,
+    table: &[Symbol],
+    length: usize,
+    source: &[Symbol],
+    keys: &[Symbol],
+) -> Verdict
+    ensures { λ r. ⌜ verdictCode r ≡ unvettedCode plan (now (table .entry)) length (now (source .entry)) (now (keys .entry)) ⌝ }
+{
+    let checked = check_plan(plan, table);
+    if !checked.is_accepted() {
+        return checked;
     }
-    if source.len() != length * plan.rate || keys.len() != plan.clusters * plan.size * length {
-        return Verdict::Refused(Refusal::WrongLength);
-    }
-    if !arithmetic::all_below(plan.q, source) {
-        return Verdict::Refused(Refusal::NotASymbol);
-    }
-    Verdict::Accepted
+    check_blocks(plan, length, source, keys)
 }
 
 // Each user's keys for `length` positions, user by user, for a plan that the vet accepts.
@@ -118,6 +145,24 @@ pub fn derive_keys(
     ensures keys { λ _. ⌜ now (keys .exit) ≡ keysAfter plan (now (table .entry)) length (now (source .entry)) (now (keys .entry)) ⌝ }
 {
     let verdict = check_keys(plan, table, length, source, keys);
+    if verdict.is_accepted() {
+        write_keys(plan, table, length, source, keys);
+    }
+    verdict
+}
+
+// The same keys without a vet: for a plan that was vetted once and deals many times, or for trials.
+pub fn derive_unvetted(
+    plan: Plan,
+    table: &[Symbol],
+    length: usize,
+    source: &[Symbol],
+    keys: &mut [Symbol],
+) -> Verdict
+    ensures code { λ r. ⌜ verdictCode r ≡ unvettedCode plan (now (table .entry)) length (now (source .entry)) (now (keys .entry)) ⌝ }
+    ensures keys { λ _. ⌜ now (keys .exit) ≡ unvettedAfter plan (now (table .entry)) length (now (source .entry)) (now (keys .entry)) ⌝ }
+{
+    let verdict = check_unvetted(plan, table, length, source, keys);
     if verdict.is_accepted() {
         write_keys(plan, table, length, source, keys);
     }

@@ -4,4 +4,5 @@ mod maker;
 mod verdict;
 
 pub use derive::derive_keys;
+pub use derive::derive_unvetted;
 pub use maker::make_table;
