@@ -1,4 +1,2 @@
--- What the program `vet` says of the bytes that it reads. Program has the order of its refusals and the line that it prints. Typing is no part of it: what
--- private functions compute.
+-- What the program `vet` says of the bytes that it reads. Program has the order of its refusals and the line that it prints.
 pub mod Program
-pub mod Typing

@@ -4,7 +4,6 @@ use Prim.Native.Nat.{ℕ, zero, suc, _+_}
 use mathlib.Core.Bool.{Bool, cond, not, _&&_}
 use mathlib.Core.List.{List, [], _∷_, _++_}
 use lib.Dec.{leb, ltb}
-use lib.IntN.{ℤ, pos, negsuc}
 use lib.ListN.{length, drop}
 use Rattle.refusals.specs.declared.Code.{Code}
 use Rattle.refusals.specs.Codes.{code, firstOf, ifAccepted}
@@ -14,18 +13,10 @@ use Rattle.records.specs.Bytes.{numberAt}
 use Rattle.records.specs.Records.{planRead, tableRead, readChecks}
 use Rattle.vetting.specs.Vet.{vetChecks}
 use Rattle.signed.specs.Caps.{capFits}
-use Rattle.reports.specs.Program.{digitsOf}
+use Rattle.texts.specs.Texts.{decimal, signedDecimal}
 use Rattle.simulation.specs.Trials.{lastSender, firstSum, trueSum, shownTotal, stateAfter}
 
 -- ---- a line: numbers, "with single spaces"
-
-abbrev pub decimal : ℕ → List ℕ
-decimal n = digitsOf 10 n
-
--- a number below 0 has its sign before it
-abbrev pub signedDecimal : ℤ → List ℕ
-signedDecimal (pos n) = decimal n
-signedDecimal (negsuc n) = 0x2d ∷ decimal (suc n)
 
 -- "round number, last sender's index, gateway 1's sum, true sum (of the readings alone), shown total"
 abbrev pub trialLine : Plan → List ℕ → ℕ → ℕ → ℕ → List ℕ

@@ -1,6 +1,6 @@
 // A code as a line of text, from the highest digit on.
 use refusals::Code;
-use reports::Line;
+use texts::Line;
 
 // 20 bytes are room enough, 0 past the end.
 struct Text {

@@ -3,8 +3,9 @@ use mathlib.Core.Path.{_≡_, ap, _∙_}
 use mathlib.Core.List.{List}
 use borrow.Author.Needs.{needs}
 use Rattle.refusals.specs.declared.Code.{Code}
-use Rattle.reports.specs.Program.{programCode, lineOf, lineWith}
-use Rattle.reports.proofs.LineLaws.{line-room}
+use Rattle.texts.specs.Texts.{lineWith}
+use Rattle.texts.proofs.LineLaws.{line-room}
+use Rattle.reports.specs.Program.{programCode, lineOf}
 use Rattle.reports.proofs.vet_line.Statement.{statement}
 use Rattle.reports.proofs.vet_line.Tie as tie
 

@@ -4,18 +4,17 @@ use mathlib.Core.Path.{sym, ap, _∙_}
 use mathlib.Core.List.{List, [], _∷_}
 use native.Mathlib.Omega.{arith}
 use borrow.Author.Needs.{needs}
-use Rattle.reports.specs.declared.Line.{Line}
-use Rattle.reports.specs.Program.{decimal}
-use Rattle.reports.specs.Typing.{typed}
-use Rattle.reports.proofs.LineLaws.{typed-length, typed-append, one-digit, last-digit, tenth-length}
+use Rattle.texts.specs.declared.Line.{Line}
+use Rattle.texts.specs.Texts.{decimal, typed}
+use Rattle.texts.proofs.LineLaws.{typed-append, one-digit, last-digit}
 use borrow.Fn.Kinds.{In}
 use borrow.Fn.PlainCycle.{Measures, is, falls, and}
-use Rattle.reports.proofs.Line.put_decimal.Reads as put-decimal
-use Rattle.reports.proofs.Line.put_decimal.Kinds as put-decimal-kinds
-use Rattle.reports.proofs.Line.+put_decimal.Lts-put_decimal as put-decimal-lts
-use Rattle.reports.proofs.Line.put.Reads as put-reads
-use Rattle.reports.proofs.Line.+put_decimal.{statement}
-use Rattle.reports.proofs.Line.+put_decimal.Tie.{close}
+use Rattle.texts.proofs.Line.put_decimal.Reads as put-decimal
+use Rattle.texts.proofs.Line.put_decimal.Kinds as put-decimal-kinds
+use Rattle.texts.proofs.Line.+put_decimal.Lts-put_decimal as put-decimal-lts
+use Rattle.texts.proofs.Line.put.Reads as put-reads
+use Rattle.texts.proofs.Line.+put_decimal.{statement}
+use Rattle.texts.proofs.Line.+put_decimal.Tie.{close}
 
 abbrev μ-put-decimal : Measures 0 put-decimal-kinds.ps ℕ
 μ-put-decimal κs a = a .1 .0
@@ -50,7 +49,7 @@ put-decimal-put-requires : (t : ℕ) → put-decimal-lts.Need-put-requires (
   put-decimal-below t,
   put-decimal.Post,
 ) (put-decimal-at t) put-decimal.Post
-put-decimal-put-requires t c κs = omega arith
+put-decimal-put-requires t c κs = tt
 
 put-decimal-returns : (t : ℕ) → put-decimal-lts.Need-returns (
   put-reads.Asked,
@@ -68,7 +67,7 @@ put-decimal-put-decimal-requires : (t : ℕ) → put-decimal-lts.Need-put-decima
   put-decimal-below t,
   put-decimal.Post,
 ) (put-decimal-at t) put-decimal.Post
-put-decimal-put-decimal-requires t c κs = (omega arith, omega arith)
+put-decimal-put-decimal-requires t c κs = (omega arith, tt)
 
 put-decimal-cast-put-2 : (t : ℕ) → put-decimal-lts.Need-cast-put-2 (
   put-reads.Asked,
@@ -92,9 +91,7 @@ put-decimal-put-requires-2 : (t : ℕ) → put-decimal-lts.Need-put-requires-2 (
   put-decimal-below t,
   put-decimal.Post,
 ) (put-decimal-at t) put-decimal.Post
-put-decimal-put-requires-2 t c κs =
-    let a = c .before .before .args in
-    omega (arith, ap (λ (l : Line). l .length) (c .put-decimal .ensures), typed-length (a .self) (decimal (a .n / 10)), tenth-length (a .n) (omega arith))
+put-decimal-put-requires-2 t c κs = tt
 
 put-decimal-returns-2 : (t : ℕ) → put-decimal-lts.Need-returns-2 (
   put-reads.Asked,
