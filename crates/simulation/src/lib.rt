@@ -1,1 +1,6 @@
 // A pool on paper: trials of a plan with made-up readings and keys.
+mod draws;
+mod generator;
+
+pub use generator::next_state;
+pub use generator::value_of;
