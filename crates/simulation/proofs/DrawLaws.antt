@@ -63,7 +63,7 @@ front-one : (A : List ℕ) (x : ℕ) (D : List ℕ) (f : List ℕ → List ℕ)
 front-one [] x D f = refl
 front-one (a ∷ A) x D f = ap (λ (l : List ℕ). a ∷ l) (front-one A x D f)
 
-none-left : (n : ℕ) (l : List ℕ) → length l ≤ n → drop n l ≡ []
+pub none-left : (n : ℕ) (l : List ℕ) → length l ≤ n → drop n l ≡ []
 none-left zero [] h = refl
 none-left zero (x ∷ l) h = absurd (omega arith)
 none-left (suc n) [] h = refl

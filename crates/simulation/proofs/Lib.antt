@@ -1,2 +1,3 @@
 mod DrawLaws
 mod HeardLaws
+mod RelayLaws
