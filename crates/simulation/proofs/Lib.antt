@@ -1,3 +1,4 @@
 mod DrawLaws
 mod HeardLaws
 mod RelayLaws
+mod MaskLaws

@@ -40,7 +40,7 @@ no-frames (suc n) [] h = refl
 no-frames (suc n) (x ∷ l) h = no-frames n l (omega arith)
 
 -- a part of a list of symbols
-part-below : (q n b : ℕ) (l : List ℕ) → 0 < q → b + n ≤ length l → allBelow q l ≡ true → allBelow q (take n (drop b l)) ≡ true
+pub part-below : (q n b : ℕ) (l : List ℕ) → 0 < q → b + n ≤ length l → allBelow q l ≡ true → allBelow q (take n (drop b l)) ≡ true
 part-below q n b l pos h e =
     T→true (allBelow q (take n (drop b l)))
     (at-below q (take n (drop b l))

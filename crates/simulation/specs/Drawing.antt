@@ -5,10 +5,12 @@ use mathlib.Core.Bool.{Bool, true, false, cond, _||_}
 use mathlib.Core.List.{List, [], _∷_}
 use lib.Dec.{T, eqb}
 use lib.ListN.{length, take, drop}
+use Rattle.refusals.specs.Codes.{accepted, firstOf}
 use Rattle.lists.specs.Lists.{at, All, tab}
 use Rattle.residues.specs.Primes.{isPrime, allBelow}
 use Rattle.plans.specs.declared.Plan.{Plan}
-use Rattle.plans.specs.Plans.{usersOf, inBounds}
+use Rattle.plans.specs.Plans.{usersOf, inBounds, tableChecks}
+use Rattle.signed.specs.Caps.{capFits}
 use Rattle.rounds.specs.declared.RelayRound.{RelayRound}
 use Rattle.rounds.specs.Ledger.{Frame, frame}
 use Rattle.rounds.specs.Relays.{relayNext}
@@ -60,3 +62,18 @@ pub record Relayed (P : Plan) (sums : List ℕ) : Type 0 where
   pub prime : isPrime (P .q) ≡ true
   pub size : length sums ≡ P .clusters
   pub below : allBelow (P .q) sums ≡ true
+
+-- a good plan with a cap that fits
+pub record Fit (P : Plan) (m : ℕ) : Type 0 where
+  pub bounds : inBounds P ≡ true
+  pub prime : isPrime (P .q) ≡ true
+  pub cap : capFits P m ≡ true
+
+-- these with a table, a source key and readings
+pub record Maskable (P : Plan) (K : List ℕ) (m : ℕ) (N W : List ℕ) : Type 0 where
+  pub fit : Fit P m
+  pub table : accepted ≡ firstOf (tableChecks P K)
+  pub source : length N ≡ P .rate
+  pub symbols : allBelow (P .q) N ≡ true
+  pub readings : length W ≡ usersOf P
+  pub inside : (i : ℕ) → at W i ≤ m

@@ -2,6 +2,7 @@
 mod draws;
 mod generator;
 mod sums;
+mod uploads;
 
 pub use generator::next_state;
 pub use generator::value_of;
