@@ -2,3 +2,5 @@ mod DrawLaws
 mod HeardLaws
 mod RelayLaws
 mod MaskLaws
+mod OrderLaws
+mod TrialLaws

@@ -1,36 +1,40 @@
 -- Uploads and shown totals of one symbol.
 use Prim.Native.Nat.{ℕ, _+_, _*_, _%_, _^_, _≤_, _<_}
 use mathlib.Core.Path.{_≡_, refl, sym, ap, ap₂, _∙_, subst}
-use mathlib.Core.Bool.{Bool, true, false, cond}
+use mathlib.Core.Bool.{Bool, true, false, cond, not}
 use mathlib.Core.List.{List, [], _∷_, map}
 use native.Mathlib.Nat.{mod-lt}
 use native.Mathlib.Omega.{arith}
+use lib.Arith.{digits-lt}
 use lib.Dec.{T, leb, ltb}
 use lib.IntN.{ℤ, pos, _-ℤ_}
 use lib.ListN.{length, getD}
 use borrow.Author.Tests.{lt-ltb, le-leb, eq-eqb, ltb-true, ltb-false}
 use mir.Syntax.{w32}
 use mir.Val.{SFits}
-use Rattle.refusals.specs.Codes.{accepted, firstOf}
+use Rattle.refusals.specs.Codes.{code, accepted, firstOf}
 use Rattle.refusals.proofs.CodeLaws.{accepted-takes}
 use Rattle.refusals.proofs.Orders.{rest-decides}
 use Rattle.lists.specs.Lists.{at, tab}
-use Rattle.lists.proofs.ListLaws.{at-tab}
+use Rattle.lists.proofs.ListLaws.{at-tab, length-tab, tab-cong}
+use Rattle.lists.specs.Sums.{sumTo}
+use Rattle.lists.proofs.Sums.{sum-cong}
 use Rattle.lists.proofs.Searches.{T→true, true→T, and-T}
 use Rattle.residues.specs.Primes.{allBelow}
 use Rattle.residues.specs.Field.{sumOf}
 use Rattle.residues.proofs.Congruence.{residue-mod}
-use Rattle.residues.proofs.PrimeLaws.{below-at, at-below}
+use Rattle.residues.proofs.PrimeLaws.{below-at, at-below, prime-pos, prime-true}
 use Rattle.matrices.specs.Linear.{Vector}
-use Rattle.secrecy.specs.Model.{reading, key, upload}
+use Rattle.secrecy.specs.Model.{reading, key, upload, relaySum}
 use Rattle.plans.specs.declared.Plan.{Plan}
 use Rattle.plans.specs.Plans.{usersOf, tableChecks}
+use Rattle.plans.proofs.TableLaws.{Passed, table-passed}
 use Rattle.vetting.specs.Pools.{poolOf}
 use Rattle.keys.specs.Keys.{keysOf, blockChecks, unvettedCode, unvettedAfter}
 use Rattle.keys.proofs.KeyLaws.{keys-are, length-keys, keys-at}
 use Rattle.signed.specs.Numbers.{symbolOf, shownOf}
-use Rattle.signed.specs.Caps.{allInCap}
-use Rattle.signed.specs.SignedBlocks.{signedUploadAfter, totalsAfter}
+use Rattle.signed.specs.Caps.{capFits, allInCap}
+use Rattle.signed.specs.SignedBlocks.{signedUploadAfter, totalsCode, totalsAfter}
 use Rattle.signed.proofs.CheckLaws.{Shape, positive, reading-room}
 use Rattle.signed.proofs.NumberLaws.{half-fits}
 use Rattle.signed.proofs.SignedLaws.{signed-taken, symbols-shown}
@@ -114,3 +118,51 @@ module _ (P : Plan) (K : List ℕ) (m : ℕ) (N W : List ℕ) (s : Maskable P K 
   upload-is i h =
       let e : i ≡ i * 1 + 0 = omega arith in
       ap₂ (λ (x y : ℕ). (x + y) % P .q) (ap (at W) e) (key-at i h)
+
+  -- ---- from uploads to the total
+
+  abbrev pub uploadsAll : List ℕ
+  uploadsAll = tab (usersOf P) (λ i. upload (poolOf P K) 1 W N i 0)
+
+  abbrev pub relaysAll : List ℕ
+  relaysAll = tab (P .clusters) (λ u. relaySum (poolOf P K) 1 W N u 0)
+
+  tab-below : (n : ℕ) (f : ℕ → ℕ) → ((i : ℕ) → i < n → f i < P .q) → allBelow (P .q) (tab n f) ≡ true
+  tab-below n f h =
+      T→true (allBelow (P .q) (tab n f))
+      (at-below (P .q) (tab n f)
+      (λ i l.
+      let k : i < n = omega (arith, length-tab n f) in
+      subst (λ (x : ℕ). x < P .q) (sym (at-tab n f i k)) (h i k)))
+
+  pub uploads-below : allBelow (P .q) uploadsAll ≡ true
+  unfolding upload
+  uploads-below = tab-below (usersOf P) (λ i. upload (poolOf P K) 1 W N i 0) (λ i l. mod-lt _ pos-q)
+
+  pub relays-below : allBelow (P .q) relaysAll ≡ true
+  unfolding relaySum
+  relays-below = tab-below (P .clusters) (λ u. relaySum (poolOf P K) 1 W N u 0) (λ u l. mod-lt _ pos-q)
+
+  -- the sums of the uploads are the relay sums
+  pub relays-are : tab (P .clusters) (λ u. sumTo (P .size) (λ v. at uploadsAll (u * P .size + v)) % P .q) ≡ relaysAll
+  unfolding relaySum
+  relays-are =
+      tab-cong (P .clusters) (λ u. sumTo (P .size) (λ v. at uploadsAll (u * P .size + v)) % P .q) (λ u. relaySum (poolOf P K) 1 W N u 0)
+      (λ u h.
+      ap (λ (x : ℕ). x % P .q)
+      (sum-cong (P .size) (λ v. at uploadsAll (u * P .size + v)) (λ v. upload (poolOf P K) 1 W N (u * P .size + v) 0)
+      (λ v l. at-tab (usersOf P) (λ i. upload (poolOf P K) 1 W N i 0) (u * P .size + v) (digits-lt h l))))
+
+  -- and their sum is the total
+  pub total-are : sumTo (P .clusters) (at relaysAll) % P .q ≡ sumTo (P .clusters) (λ u. relaySum (poolOf P K) 1 W N u 0) % P .q
+  total-are =
+      ap (λ (x : ℕ). x % P .q)
+      (sum-cong (P .clusters) (at relaysAll) (λ u. relaySum (poolOf P K) 1 W N u 0) (λ u h. at-tab (P .clusters) (λ u. relaySum (poolOf P K) 1 W N u 0) u h))
+
+-- showing a total of 0 judges the cap alone, where the plan is good
+pub cap-told : (P : Plan) (K : List ℕ) (m : ℕ) → accepted ≡ firstOf (tableChecks P K)
+    → totalsCode P m 1 (0 ∷ []) (pos 0 ∷ []) ≡ firstOf ((not (capFits P m), code 16) ∷ [])
+unfolding allBelow
+cap-told P K m e =
+    let p : Passed P K = table-passed P K [] tt e in
+    rw (p .bounds, prime-true (P .q) (p .prime), lt-ltb 0 (P .q) (prime-pos (p .prime)))

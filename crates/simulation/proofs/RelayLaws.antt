@@ -182,7 +182,7 @@ module _ (number q : ℕ) (sums : List ℕ) where
         carries = let e : u ≡ suc u - 1 = omega arith in ap (λ (j : ℕ). take 1 (drop j sums)) e;
       }
 
-all-tab : {A : Type 0} (Q : A → Type 0) (n : ℕ) (f : ℕ → A) → ((k : ℕ) → k < n → Q (f k)) → All Q (tab n f)
+pub all-tab : {A : Type 0} (Q : A → Type 0) (n : ℕ) (f : ℕ → A) → ((k : ℕ) → k < n → Q (f k)) → All Q (tab n f)
 unfolding tab
 all-tab Q zero f h = tt
 all-tab Q (suc n) f h = (h 0 (omega arith), all-tab Q n (λ k. f (suc k)) (λ k l. h (suc k) (omega arith)))

@@ -7,6 +7,7 @@ use lib.Dec.{T, eqb}
 use lib.ListN.{length, take, drop}
 use Rattle.refusals.specs.Codes.{accepted, firstOf}
 use Rattle.lists.specs.Lists.{at, All, tab}
+use Rattle.lists.specs.Sums.{sumTo}
 use Rattle.residues.specs.Primes.{isPrime, allBelow}
 use Rattle.plans.specs.declared.Plan.{Plan}
 use Rattle.plans.specs.Plans.{usersOf, inBounds, tableChecks}
@@ -14,7 +15,11 @@ use Rattle.signed.specs.Caps.{capFits}
 use Rattle.rounds.specs.declared.RelayRound.{RelayRound}
 use Rattle.rounds.specs.Ledger.{Frame, frame}
 use Rattle.rounds.specs.Relays.{relayNext}
-use Rattle.simulation.specs.Generator.{stepped, valueOf}
+use Rattle.secrecy.specs.Model.{relaySum}
+use Rattle.vetting.specs.Pools.{poolOf}
+use Rattle.signed.specs.Numbers.{shownOf}
+use Rattle.simulation.specs.declared.Settled.{Settled}
+use Rattle.simulation.specs.Generator.{stepped, valueOf, valueAt}
 use Rattle.simulation.specs.Trials.{without}
 
 -- so many senders of those who are owing, from a state on
@@ -22,6 +27,10 @@ unfoldable pub sendersFrom : ℕ → ℕ → List ℕ → List ℕ
 sendersFrom s zero owing = []
 sendersFrom s (suc n) owing =
     at owing (valueOf (stepped s) % length owing) ∷ sendersFrom (stepped s) n (without (valueOf (stepped s) % length owing) owing)
+
+-- so many values modulo a number, from a state on
+abbrev pub drawnOf : ℕ → ℕ → ℕ → List ℕ
+drawnOf modulus s n = tab n (λ k. valueAt s k % modulus)
 
 -- is i one of the list?
 unfoldable pub among : ℕ → List ℕ → Bool
@@ -77,3 +86,18 @@ pub record Maskable (P : Plan) (K : List ℕ) (m : ℕ) (N W : List ℕ) : Type 
   pub symbols : allBelow (P .q) N ≡ true
   pub readings : length W ≡ usersOf P
   pub inside : (i : ℕ) → at W i ≤ m
+
+-- these with an order in which everyone is
+pub record Drawn (P : Plan) (K : List ℕ) (m : ℕ) (N W order : List ℕ) : Type 0 where
+  pub maskable : Maskable P K m N W
+  pub few : length order ≤ 16
+  pub users : All (λ i. i < usersOf P) order
+  pub everyone : (i : ℕ) → i < usersOf P → T (among i order)
+
+-- relay 1's sum and the shown total, by document 000's equations
+abbrev pub settledOf : Plan → List ℕ → List ℕ → List ℕ → Settled
+settledOf P K N W =
+    record {
+      first = relaySum (poolOf P K) 1 W N 0 0;
+      shown = shownOf (P .q) (sumTo (P .clusters) (λ u. relaySum (poolOf P K) 1 W N u 0) % P .q);
+    }
