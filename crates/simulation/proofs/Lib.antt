@@ -4,3 +4,4 @@ mod RelayLaws
 mod MaskLaws
 mod OrderLaws
 mod TrialLaws
+pub mod OnPaper

@@ -4,4 +4,5 @@ pub mod Generator
 pub mod Trials
 pub mod Answers
 pub mod Runs
+pub mod OnPaper
 pub mod Drawing
