@@ -4,4 +4,5 @@ mod RelayLaws
 mod MaskLaws
 mod OrderLaws
 mod TrialLaws
+mod TextLaws
 pub mod OnPaper

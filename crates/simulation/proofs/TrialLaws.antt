@@ -1,5 +1,5 @@
 -- What is drawn in a round on paper, as Trials says it, and that everything about it is good.
-use Prim.Native.Nat.{ℕ, suc, _+_, _/_, _%_, _<_}
+use Prim.Native.Nat.{ℕ, suc, _+_, _-_, _/_, _%_, _<_}
 use mathlib.Core.Path.{_≡_, refl, sym, ap, _∙_, subst}
 use mathlib.Core.Bool.{Bool, true, not}
 use mathlib.Core.List.{List, [], _∷_}
@@ -13,16 +13,17 @@ use Rattle.refusals.proofs.CodeLaws.{none-holds}
 use Rattle.refusals.proofs.Orders.{first-accepts}
 use Rattle.lists.specs.Lists.{at, All, tab}
 use Rattle.lists.proofs.ListLaws.{at-tab, length-tab, tab-cong}
+use Rattle.lists.proofs.Members.{all-at}
 use Rattle.lists.proofs.Searches.{T→true, true→T}
 use Rattle.residues.specs.Primes.{allBelow}
 use Rattle.residues.proofs.PrimeLaws.{below-at, at-below, prime-true, prime-pos}
 use Rattle.plans.specs.declared.Plan.{Plan}
 use Rattle.plans.specs.Plans.{usersOf, tableChecks}
-use Rattle.plans.proofs.PlanBounds.{Bounds, bounds-known}
+use Rattle.plans.proofs.PlanBounds.{Bounds, bounds-known, some-users}
 use Rattle.plans.proofs.TableLaws.{Passed, table-passed}
 use Rattle.signed.specs.Caps.{capFits}
 use Rattle.simulation.specs.Generator.{steppedBy, valueOf, valueAt}
-use Rattle.simulation.specs.Trials.{sourceKey, readings, senders, stateAfter, trialChecks}
+use Rattle.simulation.specs.Trials.{sourceKey, readings, senders, lastSender, stateAfter, trialChecks}
 use Rattle.simulation.specs.Drawing.{drawnOf, sendersFrom, among, Fit, Maskable, Drawn}
 use Rattle.simulation.proofs.DrawLaws.{stepped-add, value-later, senders-from}
 use Rattle.simulation.proofs.OrderLaws.{senders-length, senders-all, senders-everyone, among-tab}
@@ -116,3 +117,8 @@ module _ (P : Plan) (K : List ℕ) (m s : ℕ) where
               subst (λ (l : List ℕ). T (among i l)) senders-are
               (senders-everyone i n read (tab n (λ i. i)) size (among-tab n (λ i. i) i i h refl));
         }
+
+    -- the last sender is one of the users
+    pub last-small : lastSender P K m s < n
+    last-small =
+        all-at (λ i. i < n) (senders P K m s) (drawn .users) (n - 1) (omega (arith, senders-size, some-users (known .counts))) 0

@@ -2,7 +2,7 @@
 use Prim.Native.Nat.{ℕ, zero, suc, _+_, _/_, _%_, _≤_, _<_}
 use mathlib.Core.Path.{_≡_}
 use mathlib.Core.Bool.{Bool, true, false, cond, _||_}
-use mathlib.Core.List.{List, [], _∷_}
+use mathlib.Core.List.{List, [], _∷_, _++_}
 use lib.Dec.{T, eqb}
 use lib.ListN.{length, take, drop}
 use Rattle.refusals.specs.Codes.{accepted, firstOf}
@@ -18,7 +18,10 @@ use Rattle.rounds.specs.Relays.{relayNext}
 use Rattle.secrecy.specs.Model.{relaySum}
 use Rattle.vetting.specs.Pools.{poolOf}
 use Rattle.signed.specs.Numbers.{shownOf}
+use Rattle.texts.specs.Texts.{decimal, signedDecimal}
+use Rattle.simulation.specs.declared.Run.{Run}
 use Rattle.simulation.specs.declared.Settled.{Settled}
+use Rattle.simulation.specs.declared.Trial.{Trial}
 use Rattle.simulation.specs.Generator.{stepped, valueOf, valueAt}
 use Rattle.simulation.specs.Trials.{without}
 
@@ -101,3 +104,17 @@ settledOf P K N W =
       first = relaySum (poolOf P K) 1 W N 0 0;
       shown = shownOf (P .q) (sumTo (P .clusters) (λ u. relaySum (poolOf P K) 1 W N u 0) % P .q);
     }
+
+-- ---- a line, and the run after it
+
+abbrev pub textOf : ℕ → Trial → List ℕ
+textOf number t =
+    decimal number
+    ++ 0x20 ∷ decimal (t .last)
+    ++ 0x20 ∷ decimal (t .first)
+    ++ 0x20 ∷ decimal (t .sum)
+    ++ 0x20 ∷ signedDecimal (t .shown)
+    ++ (0x0a ∷ [])
+
+abbrev pub laterRun : Run → ℕ → Run
+laterRun R s = record { plan = R .plan; table = R .table; cap = R .cap; rounds = R .rounds; number = R .number + 1; state = s }
