@@ -20,14 +20,14 @@ use Rattle.lists.proofs.ListLaws.{at-tab, length-tab, tab-cong}
 use Rattle.lists.specs.Sums.{sumTo}
 use Rattle.lists.proofs.Sums.{sum-cong}
 use Rattle.lists.proofs.Searches.{T→true, true→T, and-T}
-use Rattle.residues.specs.Primes.{allBelow}
+use Rattle.residues.specs.Primes.{isPrime, allBelow}
 use Rattle.residues.specs.Field.{sumOf}
 use Rattle.residues.proofs.Congruence.{residue-mod}
-use Rattle.residues.proofs.PrimeLaws.{below-at, at-below, prime-pos, prime-true}
+use Rattle.residues.proofs.PrimeLaws.{below-at, at-below, prime-pos, prime-true, true-prime}
 use Rattle.matrices.specs.Linear.{Vector}
 use Rattle.secrecy.specs.Model.{reading, key, upload, relaySum}
 use Rattle.plans.specs.declared.Plan.{Plan}
-use Rattle.plans.specs.Plans.{usersOf, tableChecks}
+use Rattle.plans.specs.Plans.{usersOf, inBounds, tableChecks}
 use Rattle.plans.proofs.TableLaws.{Passed, table-passed}
 use Rattle.vetting.specs.Pools.{poolOf}
 use Rattle.keys.specs.Keys.{keysOf, blockChecks, unvettedCode, unvettedAfter}
@@ -160,9 +160,11 @@ module _ (P : Plan) (K : List ℕ) (m : ℕ) (N W : List ℕ) (s : Maskable P K 
       (sum-cong (P .clusters) (at relaysAll) (λ u. relaySum (poolOf P K) 1 W N u 0) (λ u h. at-tab (P .clusters) (λ u. relaySum (poolOf P K) 1 W N u 0) u h))
 
 -- showing a total of 0 judges the cap alone, where the plan is good
-pub cap-told : (P : Plan) (K : List ℕ) (m : ℕ) → accepted ≡ firstOf (tableChecks P K)
+pub cap-judged : (P : Plan) (m : ℕ) → inBounds P ≡ true → isPrime (P .q) ≡ true
     → totalsCode P m 1 (0 ∷ []) (pos 0 ∷ []) ≡ firstOf ((not (capFits P m), code 16) ∷ [])
 unfolding allBelow
-cap-told P K m e =
-    let p : Passed P K = table-passed P K [] tt e in
-    rw (p .bounds, prime-true (P .q) (p .prime), lt-ltb 0 (P .q) (prime-pos (p .prime)))
+cap-judged P m b p = rw (b, p, lt-ltb 0 (P .q) (prime-pos (true-prime (P .q) p)))
+
+pub cap-told : (P : Plan) (K : List ℕ) (m : ℕ) → accepted ≡ firstOf (tableChecks P K)
+    → totalsCode P m 1 (0 ∷ []) (pos 0 ∷ []) ≡ firstOf ((not (capFits P m), code 16) ∷ [])
+cap-told P K m e = let p : Passed P K = table-passed P K [] tt e in cap-judged P m (p .bounds) (prime-true (P .q) (p .prime))

@@ -1,12 +1,13 @@
 -- What the private functions of a trial compute. Nothing here has to be believed: proofs tie it to Trials.
 use Prim.Native.Nat.{ℕ, zero, suc, _+_, _/_, _%_, _≤_, _<_}
 use mathlib.Core.Path.{_≡_}
-use mathlib.Core.Bool.{Bool, true, false, cond, _||_}
+use mathlib.Core.Bool.{Bool, true, false, cond, not, _||_}
 use mathlib.Core.List.{List, [], _∷_, _++_}
 use lib.Dec.{T, eqb}
 use lib.ListN.{length, take, drop}
-use Rattle.refusals.specs.Codes.{accepted, firstOf}
-use Rattle.lists.specs.Lists.{at, All, tab}
+use Rattle.refusals.specs.declared.Code.{Code}
+use Rattle.refusals.specs.Codes.{code, accepted, firstOf}
+use Rattle.lists.specs.Lists.{at, All, tab, zeros}
 use Rattle.lists.specs.Sums.{sumTo}
 use Rattle.residues.specs.Primes.{isPrime, allBelow}
 use Rattle.plans.specs.declared.Plan.{Plan}
@@ -17,6 +18,8 @@ use Rattle.rounds.specs.Ledger.{Frame, frame}
 use Rattle.rounds.specs.Relays.{relayNext}
 use Rattle.secrecy.specs.Model.{relaySum}
 use Rattle.vetting.specs.Pools.{poolOf}
+use Rattle.vetting.specs.Vet.{vetChecks}
+use Rattle.records.specs.Records.{planRead, tableRead, readChecks, padded}
 use Rattle.signed.specs.Numbers.{shownOf}
 use Rattle.texts.specs.Texts.{decimal, signedDecimal}
 use Rattle.simulation.specs.declared.Run.{Run}
@@ -118,3 +121,16 @@ textOf number t =
 
 abbrev pub laterRun : Run → ℕ → Run
 laterRun R s = record { plan = R .plan; table = R .table; cap = R .cap; rounds = R .rounds; number = R .number + 1; state = s }
+
+-- ---- opening: 16 and the vet's; the record's before them
+
+abbrev pub judgeCode : Plan → List ℕ → ℕ → Code
+judgeCode P K m = firstOf ((not (capFits P m), code 16) ∷ vetChecks P K)
+
+abbrev pub recordCode : List ℕ → ℕ → Code
+recordCode B m =
+    firstOf (readChecks B (zeros 256) ++ (not (capFits (planRead B) m), code 16) ∷ vetChecks (planRead B) (tableRead B))
+
+abbrev pub recordRun : List ℕ → ℕ → ℕ → Run
+recordRun B m rounds =
+    record { plan = planRead B; table = padded (tableRead B); cap = m; rounds = rounds; number = 1; state = 1 }

@@ -20,10 +20,13 @@ use Rattle.simulation.specs.Runs.{capIn, roundsIn, planIn, tableIn, inpu
 abbrev pub run : Plan → List ℕ → ℕ → ℕ → ℕ → ℕ → Run
 run P table m rounds number s = record { plan = P; table = table; cap = m; rounds = rounds; number = number; state = s }
 
+abbrev pub noRun : Run
+noRun = run noPlan (zeros 256) 0 0 0 0
+
 -- what the opening hands back: "It starts from s = 1 (first value 16,838), uses block length 1 and numbers rounds from 1."
 abbrev pub runIn : List ℕ → Run
 runIn B =
-    ifAccepted (inputCode B) (run (planIn B) (padded (tableIn B)) (capIn B) (roundsIn B) 1 1) (run noPlan (zeros 256) 0 0 0 0)
+    ifAccepted (inputCode B) (run (planIn B) (padded (tableIn B)) (capIn B) (roundsIn B) 1 1) noRun
 
 module _ (R : Run) where
   abbrev pub tableOf : List ℕ

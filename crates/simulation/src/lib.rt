@@ -1,6 +1,7 @@
 // A pool on paper: trials of a plan with made-up readings and keys.
 mod draws;
 mod generator;
+mod input;
 mod lines;
 mod sums;
 mod trials;
@@ -9,6 +10,7 @@ mod uploads;
 use arithmetic::Symbol;
 pub use generator::next_state;
 pub use generator::value_of;
+pub use input::open;
 pub use lines::next_line;
 pub use lines::refused_line;
 use plans::Plan;
@@ -53,5 +55,11 @@ pub struct Run {
 pub struct Next {
     pub answer: Verdict,
     pub line: Line,
+    pub run: Run,
+}
+
+// A run that is opened.
+pub struct Opening {
+    pub answer: Verdict,
     pub run: Run,
 }
