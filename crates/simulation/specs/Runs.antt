@@ -9,7 +9,7 @@ use Rattle.refusals.specs.declared.Code.{Code}
 use Rattle.refusals.specs.Codes.{code, firstOf, ifAccepted}
 use Rattle.lists.specs.Lists.{zeros}
 use Rattle.plans.specs.declared.Plan.{Plan}
-use Rattle.records.specs.Bytes.{numberAt}
+use Rattle.numerals.specs.Bytes.{numberAt}
 use Rattle.records.specs.Records.{planRead, tableRead, readChecks}
 use Rattle.vetting.specs.Vet.{vetChecks}
 use Rattle.signed.specs.Caps.{capFits}

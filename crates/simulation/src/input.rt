@@ -7,7 +7,7 @@ ghost use Rattle.refusals.specs.Codes.{codeOf, ifAccepted, verdictCode};
 ghost use Rattle.lists.specs.Lists.{zeros};
 ghost use Rattle.residues.specs.Primes.{isPrime};
 ghost use Rattle.plans.specs.Plans.{inBounds};
-ghost use Rattle.records.specs.Bytes.{numberAt};
+ghost use Rattle.numerals.specs.Bytes.{numberAt};
 ghost use Rattle.simulation.specs.Runs.{inputCode};
 ghost use Rattle.simulation.specs.Steps.{noRun, runIn, tableOf};
 ghost use Rattle.simulation.specs.Drawing.{judgeCode, recordCode, recordRun};

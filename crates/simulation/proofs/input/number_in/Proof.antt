@@ -4,7 +4,7 @@ use Prim.Native.Nat.{ℕ, _+_}
 use native.Mathlib.Omega.{arith}
 use borrow.Author.Needs.{needs}
 use Rattle.lists.specs.Lists.{at}
-use Rattle.records.specs.Bytes.{numberAt}
+use Rattle.numerals.specs.Bytes.{numberAt}
 use Rattle.simulation.proofs.input.number_in.Statement.{statement}
 use Rattle.simulation.proofs.input.number_in.Tie as tie
 

@@ -16,7 +16,7 @@ use Rattle.plans.specs.Plans.{usersOf, inBounds, noPlan, plannedCode, plannedPl
 use Rattle.vetting.specs.Vet.{vetChecks}
 use Rattle.records.specs.Records.{widthIn, start, planRead, tableRead, readChecks, readCode, padded}
 use Rattle.records.proofs.RecordChecks.{Readable, readable}
-use Rattle.records.proofs.Bytes.{length-numbers}
+use Rattle.numerals.proofs.Bytes.{length-numbers}
 use Rattle.signed.specs.Caps.{capFits}
 use Rattle.simulation.specs.declared.Run.{Run}
 use Rattle.simulation.specs.Steps.{noRun, tableOf}
