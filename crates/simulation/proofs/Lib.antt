@@ -1,8 +1,2 @@
-mod DrawLaws
-mod HeardLaws
-mod RelayLaws
-mod MaskLaws
-mod OrderLaws
-mod TrialLaws
-mod TextLaws
-pub mod OnPaper
+pub mod TextLaws
+pub mod RunLaws

@@ -51,6 +51,10 @@ module _ (n a b d : ℕ) (w : ℤ) where
       let e₄ : four ≡ x₄ ++ (0x20 ∷ []) = ap (λ (l : List ℕ). l ++ field d 0x20) e₃ ∙ join x₃ (decimal d) in
       ap (λ (l : List ℕ). l ++ (0x0a ∷ [])) (ap (λ (l : List ℕ). l ++ signedDecimal w) e₄ ∙ shift x₄ (signedDecimal w))
 
+  -- whatever the numbers are, a line has room for them
+  pub text-length : length (decimal n ++ 0x20 ∷ decimal a ++ 0x20 ∷ decimal b ++ 0x20 ∷ decimal d ++ 0x20 ∷ signedDecimal w ++ (0x0a ∷ [])) ≤ 56
+  text-length = omega (arith, five-length, length-append five (0x0a ∷ []), ap length spaced)
+
   pub text-typed : (x₀ x₁ x₂ x₃ x₄ x₅ x₆ : Line) → x₀ ≡ lineWith [] → x₁ ≡ typed x₀ (field n 0x20) → x₂ ≡ typed x₁ (field a 0x20)
       → x₃ ≡ typed x₂ (field b 0x20) → x₄ ≡ typed x₃ (field d 0x20) → x₅ ≡ typed x₄ (signedDecimal w) → x₆ ≡ typed x₅ (0x0a ∷ [])
       → x₆ ≡ lineWith (decimal n ++ 0x20 ∷ decimal a ++ 0x20 ∷ decimal b ++ 0x20 ∷ decimal d ++ 0x20 ∷ signedDecimal w ++ (0x0a ∷ []))

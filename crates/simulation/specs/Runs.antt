@@ -1,5 +1,5 @@
--- What the program `simulate` prints, from the bytes that it reads: "The program reads m and the number of rounds, four bytes each, low first, and takes the rest
--- as the buffer of a plan record."
+-- What the program `simulate` prints, from the bytes that it reads: "The program reads m and the number of rounds, four bytes each, low first, and takes the
+-- rest as the buffer of a plan record."
 use Prim.Native.Nat.{ℕ, zero, suc, _+_}
 use mathlib.Core.Bool.{Bool, cond, not, _&&_}
 use mathlib.Core.List.{List, [], _∷_, _++_}
@@ -14,7 +14,7 @@ use Rattle.records.specs.Records.{planRead, tableRead, readChecks}
 use Rattle.vetting.specs.Vet.{vetChecks}
 use Rattle.signed.specs.Caps.{capFits}
 use Rattle.texts.specs.Texts.{decimal, signedDecimal}
-use Rattle.simulation.specs.Trials.{lastSender, firstSum, trueSum, shownTotal, stateAfter}
+use Rattle.trials.specs.Trials.{lastSender, firstSum, trueSum, shownTotal, stateAfter}
 
 -- ---- a line: numbers, "with single spaces"
 
@@ -51,8 +51,8 @@ module _ (B : List ℕ) where
   abbrev pub tableIn : List ℕ
   tableIn = tableRead recordIn
 
-  -- "For every program, input above 65,535 bytes is 4, before all else."; "Input under eight bytes is 4, before all else; 18 when the number of rounds is outside
-  -- 1 to 10,000, next; 16 comes between the record's checks and the vet's."
+  -- "For every program, input above 65,535 bytes is 4, before all else."; "Input under eight bytes is 4, before all else; 18 when the number of rounds is
+  -- outside 1 to 10,000, next; 16 comes between the record's checks and the vet's."
   abbrev pub inputChecks : List (Bool × Code)
   inputChecks =
       (ltb 65535 (length B), code 4)

@@ -13,7 +13,7 @@ use Rattle.records.specs.Records.{padded}
 use Rattle.texts.specs.declared.Line.{Line}
 use Rattle.texts.specs.Texts.{decimal, lineWith}
 use Rattle.simulation.specs.declared.Run.{Run}
-use Rattle.simulation.specs.Trials.{stateAfter, trialChecks}
+use Rattle.trials.specs.Trials.{stateAfter, trialChecks}
 use Rattle.simulation.specs.Runs.{capIn, roundsIn, planIn, tableIn, inputCode, trialLine}
 
 -- a plan, its table with 0 past it, a cap, how many rounds there are, the next one's number and the generator's state before it

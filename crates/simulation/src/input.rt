@@ -1,21 +1,18 @@
 // Opening a run from the bytes that the program reads.
 ghost use mathlib.Core.Path.{_≡_};
 ghost use mathlib.Core.Bool.{true};
-ghost use Prim.Native.Nat.{_+_, _<_, _≤_};
-ghost use lib.ListN.{length};
 ghost use Rattle.refusals.specs.Codes.{codeOf, ifAccepted, verdictCode};
 ghost use Rattle.lists.specs.Lists.{zeros};
 ghost use Rattle.residues.specs.Primes.{isPrime};
 ghost use Rattle.plans.specs.Plans.{inBounds};
-ghost use Rattle.numerals.specs.Bytes.{numberAt};
 ghost use Rattle.simulation.specs.Runs.{inputCode};
 ghost use Rattle.simulation.specs.Steps.{noRun, runIn, tableOf};
 ghost use Rattle.simulation.specs.Drawing.{judgeCode, recordCode, recordRun};
 use crate::Opening;
 use crate::Run;
 use crate::lines::MOST_ROUNDS;
-use crate::sums::BLOCK;
 use arithmetic::Symbol;
+use numerals::number_at;
 use plans::Plan;
 use plans::Planned;
 use records::READ_TABLE;
@@ -30,25 +27,11 @@ const MOST_BYTES: usize = 65535;
 
 const HEAD: usize = 8;
 
-const BYTES: u32 = 256;
+// Block length on paper.
+const BLOCK: usize = 1;
 
-fn wide(byte: u8) -> u32
-    ensures { λ r. ⌜ (r ≡ byte) × (r < 256) ⌝ }
-{
-    byte as u32
-}
-
-// Four bytes, low first.
-fn number_in(bytes: &[u8], i: usize) -> u32
-    requires { ⌜ (i ≤ 4) × (i + 4 ≤ length (now bytes)) ⌝ }
-    ensures { λ r. ⌜ r ≡ numberAt 4 (now (bytes .entry)) i ⌝ }
-{
-    let a = wide(bytes[i]);
-    let b = wide(bytes[i + 1]);
-    let c = wide(bytes[i + 2]);
-    let d = wide(bytes[i + 3]);
-    a + BYTES * (b + BYTES * (c + BYTES * d))
-}
+// The bytes of the cap, and of the number of rounds.
+const NUMBER: usize = 4;
 
 fn empty_table() -> [Symbol; READ_TABLE]
     ensures { λ r. ⌜ r ≡ zeros 256 ⌝ }
@@ -147,8 +130,8 @@ pub fn open(bytes: &[u8]) -> Opening
     if bytes.len() < HEAD {
         return shut(Refusal::WrongLength);
     }
-    let cap = number_in(bytes, 0);
-    let rounds = number_in(bytes, 4);
+    let cap = number_at(NUMBER, bytes, 0);
+    let rounds = number_at(NUMBER, bytes, NUMBER);
     if rounds < 1 {
         return shut(Refusal::BadRounds);
     }

@@ -6,19 +6,19 @@ ghost use lib.Dec.{leb};
 ghost use Rattle.refusals.specs.Codes.{accepted, codeOf, firstOf, ifAccepted, verdictCode};
 ghost use mathlib.Core.List.{[]};
 ghost use Rattle.texts.specs.Texts.{lineWith};
-ghost use Rattle.simulation.specs.Trials.{trialChecks};
-ghost use Rattle.simulation.specs.Answers.{trialOf, noTrial, triedCode, triedTrial};
+ghost use Rattle.trials.specs.Trials.{trialChecks};
+ghost use Rattle.trials.specs.Answers.{trialOf, noTrial, triedCode, triedTrial};
 ghost use Rattle.simulation.specs.Drawing.{textOf, laterRun};
 ghost use Rattle.simulation.specs.Steps.{tableOf, lineCode, nextLine, nextRun, refusedLine};
 use crate::Next;
 use crate::Run;
-use crate::Trial;
-use crate::Tried;
-use crate::trials::try_round;
 use refusals::Refusal;
 use refusals::Verdict;
 use refusals::verdict_code;
 use texts::Line;
+use trials::Trial;
+use trials::Tried;
+use trials::try_round;
 
 // The most rounds of a run.
 pub(crate) const MOST_ROUNDS: u32 = 10000;

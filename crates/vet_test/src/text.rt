@@ -2,9 +2,9 @@
 use refusals::Code;
 use texts::Line;
 
-// 20 bytes are room enough, 0 past the end.
+// As many bytes as a line has places, 0 past the end.
 struct Text {
-    bytes: [u8; 20],
+    bytes: [u8; Line::PLACES],
     length: usize,
 }
 
@@ -12,7 +12,7 @@ impl Text {
     // A byte for which there is no room is left out.
     fn put(mut self, byte: u8) -> Text {
         let end = self.length;
-        if end < 20 {
+        if end < Line::PLACES {
             self.bytes[end] = byte;
             self.length = end + 1;
         }
@@ -43,7 +43,7 @@ impl Text {
 
 fn written(code: Code) -> Text {
     let empty = Text {
-        bytes: [0; 20],
+        bytes: [0; Line::PLACES],
         length: 0,
     };
     empty
@@ -52,8 +52,8 @@ fn written(code: Code) -> Text {
         .put_number(code.second, 10)
 }
 
-fn same_bytes(a: &[u8; 20], b: &[u8; 20]) -> bool {
-    for i in 0..20 {
+fn same_bytes(a: &[u8; Line::PLACES], b: &[u8; Line::PLACES]) -> bool {
+    for i in 0..Line::PLACES {
         if a[i] != b[i] {
             return false;
         }
@@ -61,7 +61,7 @@ fn same_bytes(a: &[u8; 20], b: &[u8; 20]) -> bool {
     true
 }
 
-// All 20 bytes are compared, those past the end too.
+// All places are compared, those past the end too.
 pub fn says(line: Line, code: Code) -> bool {
     let text = written(code);
     if line.length != text.length {

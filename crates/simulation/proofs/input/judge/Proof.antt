@@ -15,7 +15,7 @@ use Rattle.plans.proofs.PlanBounds.{Bounds, bounds-known, few-numbers}
 use Rattle.vetting.specs.Vet.{vetChecks}
 use Rattle.signed.specs.Caps.{capFits}
 use Rattle.simulation.specs.Steps.{tableOf}
-use Rattle.simulation.proofs.MaskLaws.{cap-judged}
+use Rattle.trials.proofs.MaskLaws.{cap-judged}
 use Rattle.simulation.proofs.input.judge.Statement.{statement}
 use Rattle.simulation.proofs.input.judge.Tie as tie
 

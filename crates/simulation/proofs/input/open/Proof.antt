@@ -66,12 +66,12 @@ returns-2 c =
     let e : codeOf WrongLength ≡ inputCode B = too-short B (c .before .before .if1 .left) (c .before .if2 .taken) in
     (c .shut2 .ensures .0 ∙ e, c .shut2 .ensures .1 ∙ shut-run B WrongLength e)
 
-abbrev bytes : tie.After-number-in2 → List ℕ
+abbrev bytes : tie.After-number-at2 → List ℕ
 bytes c = c .before .before .before .before .before .args .bytes .now
 
 -- what was read of the head
-rounds-read : (c : tie.After-number-in2) → c .number-in2 .result ≡ roundsIn (bytes c)
-rounds-read c = c .number-in2 .ensures
+rounds-read : (c : tie.After-number-at2) → c .number-at2 .result ≡ roundsIn (bytes c)
+rounds-read c = c .number-at2 .ensures
 
 returns-3 : tie.Need-returns-3
 returns-3 c =
@@ -100,12 +100,12 @@ returns-5 c =
     let e = rest B (n .before .before .before .if1 .left) (n .before .before .if2 .left) (omega (arith, t .if3 .left, rounds-read n))
     (omega (arith, f .if4 .left, rounds-read n)) in
     let part : take (length B - 8) (drop 8 B) ≡ recordIn B = take-all (length B - 8) (drop 8 B) (omega (arith, length-drop 8 B)) in
-    let cap : n .before .number-in .result ≡ capIn B = n .before .number-in .ensures in
+    let cap : n .before .number-at .result ≡ capIn B = n .before .number-at .ensures in
     let code-is = ap₂ recordCode part cap ∙ e in (
       c .read-run .ensures .0 ∙ code-is,
       c .read-run .ensures .1
-          ∙ ap (λ (d : Code). ifAccepted d (recordRun (take (length B - 8) (drop 8 B)) (n .before .number-in .result) (n .number-in2 .result)) noRun) code-is
-          ∙ ap₂ (λ (x : List ℕ) (y : ℕ). ifAccepted (inputCode B) (recordRun x y (n .number-in2 .result)) noRun) part cap
+          ∙ ap (λ (d : Code). ifAccepted d (recordRun (take (length B - 8) (drop 8 B)) (n .before .number-at .result) (n .number-at2 .result)) noRun) code-is
+          ∙ ap₂ (λ (x : List ℕ) (y : ℕ). ifAccepted (inputCode B) (recordRun x y (n .number-at2 .result)) noRun) part cap
           ∙ ap (λ (y : ℕ). ifAccepted (inputCode B) (recordRun (recordIn B) (capIn B) y) noRun) (rounds-read n),
     )
 

@@ -2,9 +2,7 @@ use borrow.Author.Needs.{needs}
 use mathlib.Core.Path.{_≡_, refl, sym, ap, ap₂, _∙_, subst}
 use mathlib.Core.Bool.{Bool, true, not}
 use mathlib.Core.List.{List, _∷_, _++_}
-use Prim.Native.Nat.{ℕ, _+_, _-_, _*_}
-use lib.ListN.{length, take}
-use lib.Seq.{take-append-seam}
+use Prim.Native.Nat.{ℕ}
 use Rattle.refusals.specs.declared.Code.{Code}
 use Rattle.refusals.specs.Codes.{code, accepted, codeOf, firstOf, ifAccepted}
 use Rattle.refusals.proofs.CodeLaws.{accepted-takes, refused-keeps}
@@ -12,28 +10,21 @@ use Rattle.refusals.proofs.Orders.{first-refuses, rest-decides}
 use Rattle.lists.specs.Lists.{zeros}
 use Rattle.residues.specs.Primes.{isPrime}
 use Rattle.plans.specs.declared.Plan.{Plan}
-use Rattle.plans.specs.Plans.{usersOf, inBounds, noPlan, plannedCode, plannedPlan}
+use Rattle.plans.specs.Plans.{inBounds, noPlan, plannedCode, plannedPlan}
 use Rattle.vetting.specs.Vet.{vetChecks}
-use Rattle.records.specs.Records.{widthIn, start, planRead, tableRead, readChecks, readCode, padded}
+use Rattle.records.specs.Records.{planRead, tableRead, readChecks, readCode, padded}
 use Rattle.records.proofs.RecordChecks.{Readable, readable}
-use Rattle.numerals.proofs.Bytes.{length-numbers}
 use Rattle.signed.specs.Caps.{capFits}
 use Rattle.simulation.specs.declared.Run.{Run}
 use Rattle.simulation.specs.Steps.{noRun, tableOf}
 use Rattle.simulation.specs.Drawing.{judgeCode, recordCode, recordRun}
+use Rattle.simulation.proofs.RunLaws.{table-part}
 use Rattle.simulation.proofs.input.read_run.Statement.{statement}
 use Rattle.simulation.proofs.input.read_run.Tie as tie
 
 -- the checks after the record's
 abbrev later : List ℕ → ℕ → List (Bool × Code)
 later B m = (not (capFits (planRead B) m), code 16) ∷ vetChecks (planRead B) (tableRead B)
-
--- the run that is read has its table in the first places
-table-part : (B : List ℕ) (m rounds : ℕ) → tableOf (recordRun B m rounds) ≡ tableRead B
-table-part B m rounds =
-    ap (λ (k : ℕ). take k (padded (tableRead B)))
-    (sym (length-numbers (widthIn B) (usersOf (planRead B) * planRead B .rate) B (start B + 4 + widthIn B)))
-    ∙ take-append-seam (tableRead B) (zeros (256 - length (tableRead B)))
 
 returns : tie.Need-returns
 returns c =
@@ -99,7 +90,7 @@ returns-2 c =
     (plan-is f) (table-is f) in
     let code-is : judgeCode (X .plan) (tableOf X) (X .cap) ≡ recordCode (B f) m =
     ap (λ (R : Run). judgeCode (R .plan) (tableOf R) (R .cap)) same
-    ∙ ap (λ (t : List ℕ). judgeCode (planRead (B f)) t m) (table-part (B f) m (s f .args .rounds))
+    ∙ ap (λ (t : List ℕ). judgeCode (planRead (B f)) t m) (table-part (B f))
     ∙ rest-decides (readChecks (B f) (lent f)) (later (B f) m) tt (told f)
     ∙ ap (λ (l : List ℕ). firstOf (readChecks (B f) l ++ later (B f) m)) (k f .before .before .empty-table .ensures) in
     (c .judged .ensures .0 ∙ code-is, c .judged .ensures .1 ∙ ap₂ (λ (d : Code) (R : Run). ifAccepted d R noRun) code-is same)

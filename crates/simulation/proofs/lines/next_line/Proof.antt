@@ -15,14 +15,14 @@ use Rattle.lists.proofs.Searches.{true→T, T-and}
 use Rattle.texts.specs.declared.Line.{Line}
 use Rattle.texts.specs.Texts.{lineWith}
 use Rattle.simulation.specs.declared.Run.{Run}
-use Rattle.simulation.specs.declared.Trial.{Trial}
+use Rattle.trials.specs.declared.Trial.{Trial}
 use Rattle.simulation.specs.declared.Next.{Next}
-use Rattle.simulation.specs.Trials.{stateAfter, trialChecks}
-use Rattle.simulation.specs.Answers.{trialOf, noTrial, triedCode, triedTrial}
+use Rattle.trials.specs.Trials.{stateAfter, trialChecks}
+use Rattle.trials.specs.Answers.{trialOf, noTrial, triedCode, triedTrial}
 use Rattle.simulation.specs.Drawing.{textOf, laterRun}
 use Rattle.simulation.specs.Runs.{trialLine}
 use Rattle.simulation.specs.Steps.{tableOf, lineCode, nextLine, nextRun}
-use Rattle.simulation.proofs.TrialLaws.{known, last-small}
+use Rattle.trials.proofs.TrialLaws.{known, last-small}
 use Rattle.simulation.proofs.lines.next_line.Statement.{statement}
 use Rattle.simulation.proofs.lines.next_line.Tie as tie
 

@@ -1,0 +1,6 @@
+pub mod DrawLaws
+mod HeardLaws
+mod RelayLaws
+pub mod MaskLaws
+mod OrderLaws
+pub mod TrialLaws
