@@ -1,21 +1,8 @@
-//! The record files of examples/.
+//! The files of examples/: plan records, and inputs for a pool on paper.
 
-use crate::{plain, proved, Code, Plan};
+use crate::{paper, plain, proved, Code, Plan};
 use std::fs;
 use std::path::Path;
-
-/// Document 01: "A plan record"; and document 02: "A plan with q of 65,536 or more has a wide record".
-fn record(plan: &Plan) -> Vec<u8> {
-    let (width, mark) = if plan.q < 65_536 { (2, 0x50) } else { (4, 0x51) };
-    let mut bytes = vec![plan.clusters as u8, plan.size as u8, plan.limit as u8, plan.rate as u8];
-    for number in [plan.q].iter().chain(&plan.table) {
-        bytes.extend(&number.to_le_bytes()[..width]);
-    }
-    let distance = bytes.len() as u16 + 4;
-    bytes.extend(distance.to_le_bytes());
-    bytes.extend([0x4B, mark]);
-    bytes
-}
 
 fn small() -> Plan {
     Plan { clusters: 2, size: 2, limit: 1, rate: 3, q: 5, table: vec![1, 0, 0, 1, 2, 4, 1, 4, 1, 2, 4, 0] }
@@ -38,13 +25,33 @@ fn named() -> Vec<(String, Plan, Code)> {
     all
 }
 
-/// Writes them, each vetted twice before.
+/// Largest reading, rounds and plan of each pool on paper.
+fn trials() -> Vec<(&'static str, u32, u32, Plan)> {
+    let mut leaking = Plan { limit: 2, q: 101, ..small() };
+    for k in 0..leaking.rate {
+        let sum: u32 = (0..3).map(|i| leaking.table[i * leaking.rate + k]).sum();
+        leaking.table[3 * leaking.rate + k] = leaking.q - sum;
+    }
+    vec![
+        ("day", 2_000, 96, Plan::made(4, 4, 6, 65_521, 2)),
+        ("wide", 536_870_911, 10, Plan::made(2, 2, 1, 4_294_967_291, 65_536)),
+        ("no-room", 1, 1, small()),
+        ("leaking", 1, 1, leaking),
+    ]
+}
+
+/// Writes them; each plan is vetted twice before.
 pub fn write(folder: &Path) {
     for (name, plan, code) in named() {
         assert_eq!(proved::vet(&plan), code, "{name}");
         assert_eq!(plain::vet(&plan), code, "{name}");
-        let bytes = record(&plan);
+        let bytes = paper::written(&plan);
         println!("{name}.plan: {} bytes, {} {} {}", bytes.len(), code.0, code.1, code.2);
         fs::write(folder.join(format!("{name}.plan")), bytes).expect("a folder to write in");
+    }    for (name, cap, rounds, plan) in trials() {
+        let bytes = paper::input(cap, rounds, &paper::written(&plan));
+        let text = paper::printed(&bytes);
+        println!("{name}.trial: {} bytes, {}", bytes.len(), text.lines().next().unwrap());
+        fs::write(folder.join(format!("{name}.trial")), bytes).expect("a folder to write in");
     }
 }

@@ -1,11 +1,13 @@
 //! Compares the proved functions with plain ones on seeded inputs, and times them. `compare` does the first, `speed` the second, and
 //! `primes` times the test for primes; without a word all three are done. `every_number [FROM TO]` compares that test with a sieve, on
-//! all numbers of 32 bits or on those from FROM up to TO, which is left out. `examples FOLDER` writes the record files of examples/.
+//! all numbers of 32 bits or on those from FROM up to TO, which is left out. `paper` compares and times the program `simulate`, and
+//! `simulate` does what that program does. `examples FOLDER` writes the files of examples/.
 
 mod every_number;
 mod examples;
 mod network_runs;
 mod networks;
+mod paper;
 mod plain;
 mod primes;
 mod proved;
@@ -58,13 +60,18 @@ fn main() {
         ["compare"] => tally::compare() == 0,
         ["speed"] => times(),
         ["primes"] => primes::measure(),
+        ["paper"] => (paper::compare(&mut tally::Seeded(17), 2_000) == 0) & paper::measure(),
+        ["simulate"] => {
+            paper::simulate();
+            true
+        }
         ["every_number"] => every_number::compare(0, 1 << 32) == 0,
         ["every_number", from, to] => every_number::compare(every_number::bound(from), every_number::bound(to)) == 0,
         ["examples", folder] => {
             examples::write(folder.as_ref());
             true
         }
-        _ => panic!("compare, speed, primes, every_number [FROM TO], examples FOLDER, or nothing"),
+        _ => panic!("compare, speed, primes, paper, simulate, every_number [FROM TO], examples FOLDER, or nothing"),
     };
     if !right {
         std::process::exit(1);
