@@ -12,14 +12,14 @@ use lib.ListN.{length}
 use lib.Seq.{take-append-seam}
 use borrow.Author.Tests.{lt-ltb, le-leb, lt-leb, not-false}
 use Rattle.refusals.specs.declared.Code.{Code}
-use Rattle.refusals.specs.Codes.{code, accepted, codeOf, isAccepted, firstOf}
+use Rattle.refusals.specs.Codes.{code, accepted, isAccepted, firstOf}
 use Rattle.refusals.proofs.CodeLaws.{accepted-takes, refused-keeps, numbered, none-holds}
 use Rattle.refusals.proofs.Orders.{numbered-append, first-accepts, rest-decides, number-accepts}
 use Rattle.lists.specs.Lists.{at, zeros}
 use Rattle.lists.specs.Sums.{sumTo}
 use Rattle.lists.proofs.Searches.{true→T, T-and}
 use Rattle.lists.proofs.Sums.{sum-cong}
-use Rattle.secrecy.specs.Model.{reading, total, ZeroSum}
+use Rattle.secrecy.specs.Model.{reading, total}
 use Rattle.plans.specs.declared.Plan.{Plan}
 use Rattle.plans.specs.Plans.{usersOf, tableChecks}
 use Rattle.vetting.specs.Pools.{poolOf}
@@ -30,7 +30,6 @@ use Rattle.records.specs.Records.{readChecks, padded}
 use Rattle.signed.specs.Caps.{capFits}
 use Rattle.signed.specs.Numbers.{shownOf}
 use Rattle.signed.proofs.CapLaws.{Cap, cap-known}
-use Rattle.texts.specs.declared.Line.{Line}
 use Rattle.texts.specs.Texts.{decimal, signedDecimal, lineWith}
 use Rattle.texts.proofs.LineLaws.{field-length}
 use Rattle.simulation.specs.declared.Run.{Run}
@@ -42,7 +41,7 @@ use Rattle.trials.proofs.TrialLaws.{fit, maskable}
 use Rattle.simulation.proofs.TextLaws.{text-length}
 use Rattle.simulation.proofs.RunLaws.{table-part, later-state, lines-joined}
 use Rattle.demands.specs.OnPaper.{FirstValue, FirstSumIs, PaperIsTrue, LastTwoEqual, OneLineARound, NumberAlone, WritesPrinted, EveryLineGiven}
-use Rattle.demands.specs.OnPaper.{RoomForLines, bytesIn, linesOf, runAfter, written, stateBefore}
+use Rattle.demands.specs.OnPaper.{RoomForLines, bytesIn, linesOf, runAfter, stateBefore}
 use Rattle.demands.proofs.Totals.{relays-total}
 
 pub first-value : FirstValue

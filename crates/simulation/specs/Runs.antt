@@ -1,7 +1,7 @@
 -- What the program `simulate` prints, from the bytes that it reads: "The program reads m and the number of rounds, four bytes each, low first, and takes the
 -- rest as the buffer of a plan record."
 use Prim.Native.Nat.{ℕ, zero, suc, _+_}
-use mathlib.Core.Bool.{Bool, cond, not, _&&_}
+use mathlib.Core.Bool.{Bool, not, _&&_}
 use mathlib.Core.List.{List, [], _∷_, _++_}
 use lib.Dec.{leb, ltb}
 use lib.ListN.{length, drop}

@@ -1,5 +1,5 @@
 -- A run of rounds on paper, one line at a time: what is known after the opening, and what the next line makes of it. Runs says what all lines together are.
-use Prim.Native.Nat.{ℕ, suc, _+_, _*_}
+use Prim.Native.Nat.{ℕ, _+_, _*_}
 use mathlib.Core.Bool.{Bool, not, _&&_}
 use mathlib.Core.List.{List, [], _∷_, _++_}
 use lib.Dec.{leb}

@@ -5,7 +5,7 @@ use mathlib.Core.List.{List, [], _∷_, _++_, append-nil}
 use native.Mathlib.Omega.{arith}
 use lib.ListN.{length, take, drop, set, length-drop}
 use lib.Seq.{length-take-le, take-all}
-use Rattle.lists.specs.Lists.{at, tab}
+use Rattle.lists.specs.Lists.{at}
 use Rattle.plans.specs.declared.Plan.{Plan}
 use Rattle.trials.specs.Generator.{stepped, valueOf, steppedBy, valueAt}
 use Rattle.trials.specs.Trials.{without, sendersOf}

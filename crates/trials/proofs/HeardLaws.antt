@@ -1,19 +1,18 @@
 -- Frames that are all good: each is counted, or its sender was counted before, so that after them everyone who sent is on the ledger. Of any machine that
 -- counts so, and then of a relay's round and the server's.
 use Prim.Native.Nat.{ℕ, suc, _%_, _≤_, _<_}
-use mathlib.Core.Path.{_≡_, refl, sym, ap, ap₂, _∙_, subst}
-use mathlib.Core.Bool.{Bool, true, false, cond, not, _&&_, _||_}
+use mathlib.Core.Path.{_≡_, refl, sym, ap, _∙_, subst}
+use mathlib.Core.Bool.{Bool, true, false, cond, _||_}
 use mathlib.Core.List.{List, [], _∷_, _++_, map}
 use mathlib.Core.Logic.{_⊎_, ⊎-elim}
 use lib.Dec.{T, eqb, eqb→eq}
-use lib.ListN.{length, take}
+use lib.ListN.{length}
 use borrow.Author.Tests.{eq-eqb, le-leb}
 use Rattle.refusals.specs.declared.Code.{Code}
 use Rattle.refusals.specs.Codes.{code, accepted, firstOf, ifAccepted}
 use Rattle.refusals.proofs.Orders.{rest-decides}
 use Rattle.residues.specs.Primes.{allBelow}
 use Rattle.lists.specs.Lists.{at, All, tab}
-use Rattle.lists.specs.Search.{allTo}
 use Rattle.lists.specs.Sums.{sumTo}
 use Rattle.lists.proofs.Members.{all-snoc}
 use Rattle.lists.proofs.Searches.{T→true, true→T, T-or, or-left, or-right, all-made}
@@ -21,7 +20,7 @@ use Rattle.rounds.specs.declared.Round.{Round}
 use Rattle.rounds.specs.declared.RelayRound.{RelayRound}
 use Rattle.rounds.specs.Ledger.{Frame, named, framesOf, everyone, Carries, Heard}
 use Rattle.rounds.specs.Rounds.{oneOf, openChecks, opened, hasReported, stateChecks, ownChecks, frameChecks, noted, ledgerOf, giveCode, sumsAfter, runOf}
-use Rattle.rounds.specs.Relays.{relayRound, nothing, heldOf, heldAs, relayChecks, Event, heard, Log, log, logChecks, logCode, logNext, logAfter, logOf, baseOf, isReported, isNext, relayRun, relayGiveCode, relaySums}
+use Rattle.rounds.specs.Relays.{relayRound, nothing, relayChecks, heard, Log, log, logChecks, logCode, logNext, logAfter, baseOf, isReported, relayRun, relayGiveCode, relaySums}
 use Rattle.rounds.proofs.LedgerLaws.{named-more}
 use Rattle.rounds.proofs.RelayLedger.{frames-own}
 use Rattle.rounds.proofs.RoundLaws.{heard-named, opened-state, full-given}

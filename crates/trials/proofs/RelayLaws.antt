@@ -1,7 +1,7 @@
 -- The frames of a trial: each relay hears everyone of its cluster, and the server every relay.
 use Prim.Native.Nat.{ℕ, zero, suc, _+_, _-_, _*_, _/_, _%_, _≤_, _<_}
 use mathlib.Core.Path.{_≡_, refl, sym, ap, ap₂, _∙_, subst}
-use mathlib.Core.Bool.{Bool, true, false, cond, _&&_, _||_}
+use mathlib.Core.Bool.{Bool, true, false, cond, _&&_}
 use mathlib.Core.List.{List, [], _∷_, map}
 use mathlib.Core.Logic.{⊎-elim}
 use native.Mathlib.Nat.{mod-lt, div-add-mod'}
@@ -14,14 +14,14 @@ use Rattle.refusals.specs.Codes.{accepted, firstOf}
 use Rattle.refusals.proofs.CodeLaws.{accepted-takes}
 use Rattle.lists.specs.Lists.{at, All, tab}
 use Rattle.lists.specs.Sums.{sumTo}
-use Rattle.lists.proofs.Fronts.{length-part, part-at, row-fits}
+use Rattle.lists.proofs.Fronts.{length-part, part-at}
 use Rattle.lists.proofs.ListLaws.{at-tab, length-tab}
 use Rattle.lists.proofs.Searches.{T→true, true→T, T-or, or-left, or-right}
 use Rattle.lists.proofs.Sums.{sum-cong}
 use Rattle.residues.specs.Primes.{isPrime, allBelow}
 use Rattle.residues.proofs.PrimeLaws.{below-at, at-below, prime-pos, true-prime}
 use Rattle.plans.specs.declared.Plan.{Plan}
-use Rattle.plans.specs.Plans.{usersOf, countsFit, inBounds}
+use Rattle.plans.specs.Plans.{inBounds}
 use Rattle.plans.proofs.PlanBounds.{Counts, Bounds, bounds-known}
 use Rattle.rounds.specs.declared.RelayRound.{RelayRound}
 use Rattle.rounds.specs.Ledger.{Frame, frame, named}
@@ -29,8 +29,8 @@ use Rattle.rounds.specs.declared.Round.{Round}
 use Rattle.rounds.specs.declared.ServerRound.{ServerRound}
 use Rattle.rounds.specs.Rounds.{oneOf, openChecks, openCode, opened, openRound, noRound, stepped, runOf, sumsAfter, serverRound, serverRun, serverSums}
 use Rattle.rounds.proofs.Runs.{step-clusters, server-run}
-use Rattle.rounds.specs.Relays.{relayRound, nothing, relayOpened, relayNext, heard, relayRun, relayGiveCode, relaySums}
-use Rattle.trials.specs.Drawing.{among, frameOf, heardFrom, runFrom, relayFrames, Sent, Relayed}
+use Rattle.rounds.specs.Relays.{relayRound, nothing, relayOpened, relayNext, heard, relayRun, relaySums}
+use Rattle.trials.specs.Drawing.{among, frameOf, runFrom, relayFrames, Sent, Relayed}
 use Rattle.trials.proofs.HeardLaws.{Fine, relay-gives, server-gives}
 
 pub no-frames : (n : ℕ) (l : List Frame) → length l ≤ n → drop n l ≡ []

@@ -1,7 +1,7 @@
 -- What is drawn in a round on paper, as Trials says it, and that everything about it is good.
 use Prim.Native.Nat.{ℕ, suc, _+_, _-_, _/_, _%_, _<_}
 use mathlib.Core.Path.{_≡_, refl, sym, ap, _∙_, subst}
-use mathlib.Core.Bool.{Bool, true, not}
+use mathlib.Core.Bool.{true, not}
 use mathlib.Core.List.{List, [], _∷_}
 use native.Mathlib.Nat.{mod-lt, mod-le}
 use native.Mathlib.Omega.{arith}
@@ -14,7 +14,7 @@ use Rattle.refusals.proofs.Orders.{first-accepts}
 use Rattle.lists.specs.Lists.{at, All, tab}
 use Rattle.lists.proofs.ListLaws.{at-tab, length-tab, tab-cong}
 use Rattle.lists.proofs.Members.{all-at}
-use Rattle.lists.proofs.Searches.{T→true, true→T}
+use Rattle.lists.proofs.Searches.{T→true}
 use Rattle.residues.specs.Primes.{allBelow}
 use Rattle.residues.proofs.PrimeLaws.{below-at, at-below, prime-true, prime-pos}
 use Rattle.plans.specs.declared.Plan.{Plan}

@@ -1,9 +1,8 @@
 -- One round on paper: a plan P with key table K, a cap m, and the generator's state s. Blocks have one symbol. "In each round it draws the R key symbols, then
 -- the readings in index order, then the senders"
-use Prim.Native.Nat.{ℕ, zero, suc, _+_, _-_, _*_, _%_}
-use mathlib.Core.Bool.{Bool, not, _&&_}
+use Prim.Native.Nat.{ℕ, zero, suc, _+_, _-_, _%_}
+use mathlib.Core.Bool.{Bool, not}
 use mathlib.Core.List.{List, [], _∷_, _++_}
-use lib.Dec.{leb}
 use lib.IntN.{ℤ}
 use lib.ListN.{length, take, drop}
 use Rattle.refusals.specs.declared.Code.{Code}

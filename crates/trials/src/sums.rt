@@ -5,7 +5,6 @@ ghost use Prim.Native.Nat.{_+_, _-_, _*_, _%_, _≤_, _<_};
 ghost use lib.ListN.{length};
 ghost use Rattle.lists.specs.Lists.{at, All, tab};
 ghost use Rattle.lists.specs.Sums.{sumTo};
-ghost use Rattle.plans.specs.Plans.{usersOf};
 ghost use Rattle.rounds.specs.Relays.{relayOpened};
 ghost use Rattle.rounds.specs.Rounds.{serverRound, openRound, serverRun};
 ghost use mathlib.Core.Bool.{true};

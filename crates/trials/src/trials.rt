@@ -4,7 +4,6 @@ ghost use Prim.Native.Nat.{_+_, _<_};
 ghost use lib.ListN.{length};
 ghost use Rattle.refusals.specs.Codes.{accepted, firstOf, ifAccepted, verdictCode};
 ghost use Rattle.lists.specs.Lists.{tab};
-ghost use Rattle.plans.specs.Plans.{usersOf};
 ghost use Rattle.trials.specs.Generator.{steppedBy};
 ghost use Rattle.trials.specs.Trials.{trialChecks};
 ghost use Rattle.trials.specs.Answers.{trialOf, noTrial, triedCode, triedTrial};

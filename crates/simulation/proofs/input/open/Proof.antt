@@ -1,7 +1,7 @@
 use borrow.Author.Needs.{needs}
 use borrow.Author.Tests.{lt-ltb, le-ltb, le-leb, lt-leb}
-use mathlib.Core.Path.{_≡_, refl, sym, ap, ap₂, _∙_}
-use mathlib.Core.Bool.{Bool, true, false, cond, not, _&&_}
+use mathlib.Core.Path.{_≡_, sym, ap, ap₂, _∙_}
+use mathlib.Core.Bool.{Bool, false, cond, not, _&&_}
 use mathlib.Core.List.{List}
 use Prim.Native.Nat.{ℕ, _-_, _≤_, _<_}
 use native.Mathlib.Omega.{arith}
@@ -13,7 +13,6 @@ use Rattle.refusals.specs.declared.Refusal.{Refusal}
 use Rattle.refusals.specs.declared.Refusal.the-variants.{WrongLength, BadRounds}
 use Rattle.refusals.specs.Codes.{code, codeOf, ifAccepted}
 use Rattle.refusals.proofs.CodeLaws.{refused-keeps}
-use Rattle.simulation.specs.declared.Run.{Run}
 use Rattle.simulation.specs.Runs.{capIn, roundsIn, recordIn, inputCode}
 use Rattle.simulation.specs.Steps.{noRun, runIn}
 use Rattle.simulation.specs.Drawing.{recordCode, recordRun}

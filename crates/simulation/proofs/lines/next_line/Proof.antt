@@ -1,22 +1,20 @@
 use borrow.Author.Needs.{needs}
-use borrow.Author.Tests.{not-true, not-false, leb-true}
-use mathlib.Core.Path.{_≡_, refl, sym, ap, _∙_, subst}
+use borrow.Author.Tests.{not-true, not-false}
+use mathlib.Core.Path.{_≡_, sym, ap, _∙_, subst}
 use mathlib.Core.Bool.{Bool, true, false, cond, not, _&&_}
-use mathlib.Core.List.{List, []}
-use Prim.Native.Nat.{ℕ, _≤_, _<_}
+use mathlib.Core.List.{[]}
+use Prim.Native.Nat.{_≤_, _<_}
 use native.Mathlib.Omega.{arith}
 use lib.Dec.{leb, leb→le}
 use Rattle.refusals.specs.declared.Code.{Code}
 use Rattle.refusals.specs.declared.Refusal.{Refusal}
 use Rattle.refusals.specs.declared.Refusal.the-variants.{BadRounds}
-use Rattle.refusals.specs.Codes.{code, accepted, codeOf, firstOf, ifAccepted}
+use Rattle.refusals.specs.Codes.{code, accepted, codeOf, firstOf}
 use Rattle.refusals.proofs.CodeLaws.{accepted-takes, refused-keeps}
 use Rattle.lists.proofs.Searches.{true→T, T-and}
-use Rattle.texts.specs.declared.Line.{Line}
 use Rattle.texts.specs.Texts.{lineWith}
 use Rattle.simulation.specs.declared.Run.{Run}
 use Rattle.trials.specs.declared.Trial.{Trial}
-use Rattle.simulation.specs.declared.Next.{Next}
 use Rattle.trials.specs.Trials.{stateAfter, trialChecks}
 use Rattle.trials.specs.Answers.{trialOf, noTrial, triedCode, triedTrial}
 use Rattle.simulation.specs.Drawing.{textOf, laterRun}

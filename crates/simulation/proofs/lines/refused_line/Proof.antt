@@ -1,10 +1,9 @@
-use mathlib.Core.Path.{_≡_, ap, _∙_}
+use mathlib.Core.Path.{ap, _∙_}
 use mathlib.Core.List.{[]}
 use Prim.Native.Nat.{ℕ}
 use native.Mathlib.Omega.{arith}
 use borrow.Author.Needs.{needs}
-use Rattle.refusals.specs.declared.Code.{Code}
-use Rattle.texts.specs.Texts.{field, lineWith}
+use Rattle.texts.specs.Texts.{field}
 use Rattle.texts.proofs.LineLaws.{field-length, typed-on}
 use Rattle.simulation.specs.Steps.{refusedLine}
 use Rattle.simulation.proofs.lines.refused_line.Statement.{statement}

@@ -1,10 +1,9 @@
 -- The invariant: the values written are those of the states passed.
 use mathlib.Core.Path.{_≡_, refl, sym, ap, _∙_}
-use Prim.Native.Nat.{ℕ, suc, _+_, _-_, _%_}
+use Prim.Native.Nat.{ℕ, suc, _-_, _%_}
 use native.Mathlib.Numerals.{add-one}
 use native.Mathlib.Omega.{arith}
 use lib.ListN.{length}
-use borrow.Author.Needs.{needs}
 use Rattle.lists.proofs.Filling.{Filling, filling-none, filling-next, filling-less, filling-whole}
 use Rattle.trials.specs.Generator.{stepped, valueOf, steppedBy, valueAt}
 use Rattle.trials.proofs.DrawLaws.{stepped-last}

@@ -1,16 +1,13 @@
 -- The invariant: those who have sent, with what is drawn of those who are owing, are all the senders.
 use mathlib.Core.Path.{_≡_, refl, sym, ap, ap₂, _∙_, subst}
-use mathlib.Core.List.{List, _∷_, _++_, append-nil}
+use mathlib.Core.List.{List, _++_}
 use Prim.Native.Nat.{ℕ, suc, _+_, _-_, _%_, _≤_, _<_}
 use native.Mathlib.Nat.{mod-lt}
 use native.Mathlib.Numerals.{add-one}
 use native.Mathlib.Omega.{arith}
 use lib.ListN.{length, take, drop}
-use borrow.Rule.Slice.PartMut.{same-len-mid}
 use Rattle.lists.proofs.Fronts.{length-part}
-use Rattle.lists.specs.Lists.{at}
-use Rattle.trials.specs.Generator.{stepped, valueOf, steppedBy}
-use Rattle.trials.specs.Trials.{without}
+use Rattle.trials.specs.Generator.{stepped, steppedBy}
 use Rattle.trials.specs.Drawing.{sendersFrom}
 use Rattle.trials.proofs.DrawLaws.{stepped-last, sender-more, all-sent}
 use Rattle.trials.proofs.draws.draw_senders.Statement.{statement}

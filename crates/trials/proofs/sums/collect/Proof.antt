@@ -1,13 +1,12 @@
 -- The invariant: the frames counted and those still to come, from the round as it is now, are all of them from the opening.
 use mathlib.Core.Path.{_≡_, refl, sym, ap, _∙_}
 use mathlib.Core.List.{List, _∷_}
-use Prim.Native.Nat.{ℕ, suc, _+_, _-_, _≤_, _<_}
+use Prim.Native.Nat.{ℕ, suc, _+_, _-_, _≤_}
 use native.Mathlib.Nat.{add-sub-cancel-left, le-add-right}
 use native.Mathlib.Numerals.{add-one}
 use native.Mathlib.Omega.{arith}
-use lib.ListN.{length, take, drop, getD}
+use lib.ListN.{length, take, drop}
 use lib.Seq.{drop-cons}
-use Rattle.lists.specs.Lists.{tab}
 use Rattle.lists.proofs.ListLaws.{get-tab, length-tab}
 use Rattle.rounds.specs.declared.ServerRound.{ServerRound}
 use Rattle.rounds.specs.Ledger.{Frame, frame}

@@ -1,5 +1,5 @@
 use borrow.Author.Tests.{not-false}
-use mathlib.Core.Path.{_≡_, refl, _∙_}
+use mathlib.Core.Path.{refl, _∙_}
 use mathlib.Core.Bool.{Bool, not}
 use mathlib.Core.List.{List, [], _∷_}
 use Rattle.refusals.specs.declared.Code.{Code}

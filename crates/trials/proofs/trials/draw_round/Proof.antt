@@ -3,7 +3,6 @@ use mathlib.Core.List.{List}
 use Prim.Native.Nat.{ℕ, _+_}
 use lib.ListN.{length}
 use borrow.Author.Needs.{needs}
-use Rattle.lists.specs.Lists.{tab}
 use Rattle.lists.proofs.ListLaws.{length-tab}
 use Rattle.trials.specs.Generator.{steppedBy}
 use Rattle.trials.specs.Drawing.{drawnOf, sendersFrom}

@@ -1,22 +1,19 @@
-use mathlib.Core.Path.{_≡_, refl, sym, ap, ap₂, _∙_, subst}
+use mathlib.Core.Path.{_≡_, sym, ap, ap₂, _∙_, subst}
 use mathlib.Core.List.{List, _++_}
 use Prim.Native.Nat.{ℕ, _+_, _-_, _%_, _^_, _≤_, _<_}
 use native.Mathlib.Nat.{mod-lt}
 use native.Mathlib.Omega.{arith}
-use lib.IntN.{ℤ}
 use lib.ListN.{length, take, drop, length-append}
 use lib.Seq.{length-take-le, take-at, getD-take}
 use mir.Syntax.{w32}
 use mir.Val.{toZ, ofZ}
 use mir.Facts.{toZ-ofZ}
-use Rattle.refusals.specs.Codes.{accepted, firstOf}
 use Rattle.lists.specs.Lists.{at, zeros, tab}
 use Rattle.lists.specs.Sums.{sumTo}
 use Rattle.lists.proofs.ListLaws.{length-tab}
 use Rattle.plans.specs.declared.Plan.{Plan}
 use Rattle.plans.specs.Plans.{usersOf}
 use Rattle.plans.proofs.PlanBounds.{some-users}
-use Rattle.trials.specs.declared.Trial.{Trial}
 use Rattle.trials.specs.declared.Settled.{Settled}
 use Rattle.trials.specs.Generator.{steppedBy, valueAt}
 use Rattle.trials.specs.Trials.{sourceKey, readings, senders, stateAfter}

@@ -1,5 +1,4 @@
-use mathlib.Core.Path.{_≡_, refl, sym, ap, ap₂, _∙_, subst}
-use mathlib.Core.Bool.{true}
+use mathlib.Core.Path.{_≡_, sym, ap, ap₂, _∙_, subst}
 use mathlib.Core.List.{List, _++_}
 use lib.IntN.{ℤ}
 use Prim.Native.Nat.{ℕ, _+_, _*_, _%_, _≤_, _<_}
@@ -11,8 +10,7 @@ use mir.Syntax.{w32}
 use Rattle.integers.proofs.Bits.{back}
 use Rattle.lists.specs.Lists.{at, zeros, tab, All}
 use Rattle.lists.specs.Sums.{sumTo}
-use Rattle.lists.proofs.ListLaws.{at-tab, length-tab, tab-cong}
-use Rattle.residues.specs.Primes.{allBelow}
+use Rattle.lists.proofs.ListLaws.{at-tab, length-tab}
 use Rattle.secrecy.specs.Model.{upload, relaySum}
 use Rattle.plans.specs.declared.Plan.{Plan}
 use Rattle.plans.specs.Plans.{usersOf}

@@ -1,10 +1,10 @@
 -- The invariant: the uploads written are those of the users passed.
-use mathlib.Core.Path.{_≡_, refl, sym, ap, _∙_}
+use mathlib.Core.Path.{_≡_, refl, ap, _∙_}
 use mathlib.Core.List.{List}
 use Prim.Native.Nat.{ℕ, suc, _+_, _-_, _%_, _≤_}
 use native.Mathlib.Nat.{le-add-right, add-sub-cancel-left}
 use native.Mathlib.Omega.{arith}
-use lib.ListN.{length, take, drop}
+use lib.ListN.{length}
 use Rattle.lists.specs.Lists.{at}
 use Rattle.lists.proofs.Filling.{Filling, filling-none, filling-next, filling-less, filling-whole}
 use Rattle.lists.proofs.Fronts.{length-part, part-at}
