@@ -1,11 +1,11 @@
 -- The table maker (document 01, "Rules from source document 000"). "Maker: 1, 2, 3, 10, 4, 7 (the maker vets its own table)."
 use Prim.Native.Nat.{ℕ, _+_, _-_, _*_, _/_, _%_, max, min}
 use mathlib.Core.Bool.{Bool, not, cond}
-use mathlib.Core.List.{List, _∷_, map}
+use mathlib.Core.List.{List, [], _∷_, map}
 use lib.Dec.{leb, ltb, eqb}
 use lib.ListN.{length}
 use Rattle.refusals.specs.declared.Code.{Code}
-use Rattle.refusals.specs.Codes.{code, firstOf, ifAccepted}
+use Rattle.refusals.specs.Codes.{code, accepted, codeOf, firstOf, ifAccepted, Outcome}
 use Rattle.residues.specs.Primes.{isPrime}
 use Rattle.residues.specs.Field.{powerOf, oppositeOf}
 use Rattle.lists.specs.Lists.{tab}
@@ -14,6 +14,8 @@ use Rattle.plans.specs.declared.Plan.{Plan}
 use Rattle.plans.specs.Plans.{countsFit, noPlan}
 use Rattle.vetting.specs.Walk.{pairs}
 use Rattle.vetting.specs.Vet.{leakCheck}
+use Rattle.keys.specs.declared.Needed.{Needed}
+use Rattle.keys.specs.declared.Needed.the-variants.{Rate, Refused}
 
 -- R = max(V + T, min(U + T − 1, U × V − 1))
 abbrev pub rateOf : ℕ → ℕ → ℕ → ℕ
@@ -55,3 +57,12 @@ makerPlan u v t q γ out = ifAccepted (makerCode u v t q γ out) (planOf u v t q
 
 abbrev pub makerTable : ℕ → ℕ → ℕ → ℕ → ℕ → List ℕ → List ℕ
 makerTable u v t q γ out = ifAccepted (makerCode u v t q γ out) (madeTable u v t q γ) out
+
+-- ---- the rate that the maker will need, from U, V and T alone: refused where they are, whatever q, γ and the lent table
+
+abbrev pub rateChecks : ℕ → ℕ → ℕ → List (Bool × Code)
+rateChecks u v t = (not (countsFit u v t), code 1) ∷ (leb ((u - 1) * v) t, code 10) ∷ []
+
+abbrev pub neededOf : Needed → Outcome
+neededOf (Rate R) = record { refusal = accepted; value = R }
+neededOf (Refused r) = record { refusal = codeOf r; value = 0 }

@@ -29,7 +29,7 @@ use refusals::Verdict;
 const LARGEST: usize = Plan::MAX_USERS * Plan::MAX_RATE;
 
 // R, for counts within their bounds: what a relay asks, and what the server asks, which is never more than the users but one.
-fn rate_of(clusters: usize, size: usize, limit: usize) -> usize
+pub(crate) fn rate_of(clusters: usize, size: usize, limit: usize) -> usize
     requires { ⌜ (1 ≤ clusters) × (clusters ≤ 8) × (1 ≤ size) × (size ≤ 8) × (limit ≤ 16) ⌝ }
     ensures { λ r. ⌜ r ≡ rateOf clusters size limit ⌝ }
 {
