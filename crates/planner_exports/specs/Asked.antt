@@ -1,0 +1,32 @@
+-- What a planner's numbers ask for: a pair of relays under one lock, and the five numbers of a plan.
+use Prim.Native.Nat.{ℕ}
+use mathlib.Core.Bool.{cond, _&&_}
+use mathlib.Core.List.{List, [], _∷_}
+use lib.Dec.{eqb}
+use Rattle.refusals.specs.declared.Code.{Code}
+use Rattle.lists.specs.Lists.{at}
+use Rattle.plans.specs.declared.Plan.{Plan}
+use Rattle.vetting.specs.declared.Joint.{Joint}
+use Rattle.vetting.specs.declared.Joint.the-variants.{None, Relays}
+use Rattle.keys.specs.Maker.{rateOf, makerCode, makerTable}
+
+-- two zeros stand for no pair
+abbrev pub jointOf : ℕ → ℕ → Joint
+jointOf first second = cond (eqb first 0 && eqb second 0) None (Relays first second)
+
+-- U, V, T, R and q
+abbrev pub countsOf : Plan → List ℕ
+countsOf P = P .clusters ∷ P .size ∷ P .limit ∷ P .rate ∷ P .q ∷ []
+
+-- the maker is lent U, V, T and q in a plan's places, whatever stands in that of R
+module _ (counts : List ℕ) (γ : ℕ) (table : List ℕ) where
+  abbrev pub askedCode : Code
+  askedCode = makerCode (at counts 0) (at counts 1) (at counts 2) (at counts 4) γ table
+
+  abbrev pub askedTable : List ℕ
+  askedTable = makerTable (at counts 0) (at counts 1) (at counts 2) (at counts 4) γ table
+
+-- and gets the plan's R in its place
+abbrev pub madeCounts : List ℕ → List ℕ
+madeCounts counts =
+    at counts 0 ∷ at counts 1 ∷ at counts 2 ∷ rateOf (at counts 0) (at counts 1) (at counts 2) ∷ at counts 4 ∷ []
