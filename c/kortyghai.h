@@ -5,9 +5,9 @@
  * details. Take them out by the three macros below. A refused call writes nothing.
  *
  * A run of bytes or symbols is passed as its address and its length, the length counted in bytes or symbols. A row of 64 sums,
- * and a number that a call may change, are passed as an address alone. No address is null, also where a length is 0. What a
- * call writes to overlaps nothing else that is passed to that call. Nothing is kept between calls, nothing is allocated, and
- * calls from several threads at once don't disturb each other.
+ * the five numbers of a plan or of a round, and a number that a call may change, are passed as an address alone. No address is
+ * null, also where a length is 0. What a call writes to overlaps nothing else that is passed to that call. Nothing is kept
+ * between calls, nothing is allocated, and calls from several threads at once don't disturb each other.
  *
  * A symbol is a whole number below the plan's prime q, held in 32 bits. A plan has
  *
@@ -17,8 +17,9 @@
  *     rate      R, source symbols a position, from 1 to 16
  *     q         a prime from 2 to 4,294,967,291
  *
- * and a key table of U x V rows, user by user and cluster by cluster, of R symbols each. The user number v of cluster u, both
- * from 1, has index (u - 1) x V + v - 1. A coalition is a number with one bit for each user's index.
+ * which are lent as five numbers in this order, and a key table of U x V rows, user by user and cluster by cluster, of R
+ * symbols each. The user number v of cluster u, both from 1, has index (u - 1) x V + v - 1. A coalition is a number with one
+ * bit for each user's index.
  *
  * A plan record is the bytes of a plan: U, V, T and R in one byte each; q; the symbols of the key table; the distance D from its
  * first byte to its end, in two bytes; two marks. Every number has its low byte first. There are two kinds, and q decides which
@@ -59,7 +60,8 @@ extern "C" {
 #define KORTYGHAI_STREAM_TOO_SHORT 13 /* the key stream has fewer symbols left than a block needs */
 #define KORTYGHAI_OTHER_ROUND 14      /* the frame is of another round, or there is no next round */
 
-/* Exact lengths of two lent buffers, and the most bytes that kortyghai_vet_record takes. */
+/* How many symbols the reader's table has, how many numbers of a plan or a round are lent in one run, and the most bytes that
+ * kortyghai_vet_record takes. */
 #define KORTYGHAI_READ_TABLE 256
 #define KORTYGHAI_COUNTS 5
 #define KORTYGHAI_MOST_BYTES 65535
@@ -67,12 +69,12 @@ extern "C" {
 /*
  * The vet: is the plan good, and does it hide what it has to hide?
  *
+ *     plan    U, V, T, R and q
  *     table   the key table, exactly U x V x R symbols
  *
  * Refuses, the first that holds: 1, 4, 2, 3, 6, 7.
  */
-uint64_t kortyghai_vet(size_t clusters, size_t size, size_t limit, size_t rate, uint32_t q, const uint32_t *table,
-                       size_t table_len);
+uint64_t kortyghai_vet(const uint32_t plan[KORTYGHAI_COUNTS], const uint32_t *table, size_t table_len);
 
 /*
  * The vet's answer on the plan record, old or wide, at the end of the bytes; what stands before the record doesn't matter. It is
@@ -88,31 +90,32 @@ uint64_t kortyghai_vet_record(const uint8_t *bytes, size_t bytes_len);
 /*
  * Reads the plan record, old or wide, at the end of the bytes, without vetting it.
  *
+ *     plan     U, V, T, R and q are put there
  *     table    exactly 256 symbols: the key table is put there, and 0 past its U x V x R symbols
- *     counts   exactly 5 numbers: U, V, T, R and q are put there, in this order
  *
  * Refuses, the first that holds: 5 (under four bytes, neither kind's marks, D under 10 of the old or under 12 of the wide, or
- * beyond the bytes), 1, 4 (D is not that of the record's plan, table has not exactly 256 symbols, or counts has not exactly 5
- * numbers), 2 (q is no prime, or below 65,536 in a wide record), 3.
+ * beyond the bytes), 1, 4 (D is not that of the record's plan, or table has not exactly 256 symbols), 2 (q is no prime, or below
+ * 65,536 in a wide record), 3.
  */
-uint64_t kortyghai_read_record(const uint8_t *bytes, size_t bytes_len, uint32_t *table, size_t table_len, uint32_t *counts,
-                               size_t counts_len);
+uint64_t kortyghai_read_record(const uint8_t *bytes, size_t bytes_len, uint32_t plan[KORTYGHAI_COUNTS], uint32_t *table,
+                               size_t table_len);
 
 /*
  * The table maker: a key table for U clusters of V users and coalitions of at most T, made of powers of a symbol and vetted.
  * The rate is R = max(V + T, min(U + T - 1, U x V - 1)).
  *
+ *     plan        U, V, T and q; R is put in its place, and what stood there decides nothing
  *     generator   a symbol below q
  *     table       exactly U x V x R symbols: the key table is put there
  *
  * Refuses, the first that holds: 1, 2, 3, 10, 4, 7 (the table that the generator gives leaks).
  */
-uint64_t kortyghai_make_table(size_t clusters, size_t size, size_t limit, uint32_t q, uint32_t generator, uint32_t *table,
-                              size_t table_len);
+uint64_t kortyghai_make_table(uint32_t plan[KORTYGHAI_COUNTS], uint32_t generator, uint32_t *table, size_t table_len);
 
 /*
  * Each user's keys, for a plan that the vet accepts.
  *
+ *     plan     U, V, T, R and q
  *     table    the key table, exactly U x V x R symbols
  *     length   L, positions in a block, from 1 to 64
  *     source   the source key, exactly R x L symbols, position by position
@@ -120,9 +123,8 @@ uint64_t kortyghai_make_table(size_t clusters, size_t size, size_t limit, uint32
  *
  * Refuses, the first that holds: the vet's 1, 4, 2, 3, 6, 7, then 9, 4 (source or keys), 3 (a symbol of source).
  */
-uint64_t kortyghai_derive_keys(size_t clusters, size_t size, size_t limit, size_t rate, uint32_t q, const uint32_t *table,
-                               size_t table_len, size_t length, const uint32_t *source, size_t source_len, uint32_t *keys,
-                               size_t keys_len);
+uint64_t kortyghai_derive_keys(const uint32_t plan[KORTYGHAI_COUNTS], const uint32_t *table, size_t table_len, size_t length,
+                               const uint32_t *source, size_t source_len, uint32_t *keys, size_t keys_len);
 
 /*
  * A user's upload: reading plus key, position by position, modulo q.
@@ -155,8 +157,7 @@ uint64_t kortyghai_unmask(uint32_t q, size_t length, const uint32_t *upload, siz
  * numbers. Who has reported and the sums are lent, for both rounds, and stand afterwards as the call leaves them. A new relay has
  * 0 in reported and in ahead, and 64 sums of 0 in sums and in held.
  *
- *     length     L, from 1 to 64
- *     cluster    the relay's own number, from 1 to U
+ *     counts     U, V, q, L (from 1 to 64) and the relay's own number, from 1 to U
  *     number     the round's number r
  *     reported   one bit for each user of the cluster who has reported in round r: user v has bit v - 1
  *     sums       the sums of round r, exactly 64 symbols, 0 past the first L
@@ -170,9 +171,9 @@ uint64_t kortyghai_unmask(uint32_t q, size_t length, const uint32_t *upload, siz
  * or held, a symbol not below q, or one past the first L that is not 0), then of the frame 8 (sender), 14 (said is neither
  * round's number), 4, 3, 11.
  */
-uint64_t kortyghai_count_frame(size_t clusters, size_t size, uint32_t q, size_t length, size_t cluster, uint32_t number,
-                               uint16_t *reported, uint32_t *sums, uint16_t *ahead, uint32_t *held, size_t sender,
-                               uint32_t said, const uint32_t *block, size_t block_len);
+uint64_t kortyghai_relay_count(const uint32_t counts[KORTYGHAI_COUNTS], uint32_t number, uint16_t *reported, uint32_t *sums,
+                               uint16_t *ahead, uint32_t *held, size_t sender, uint32_t said, const uint32_t *block,
+                               size_t block_len);
 
 /*
  * Moves a relay on to its next round, once every user of its cluster has reported: number becomes r + 1, reported and sums
@@ -182,15 +183,14 @@ uint64_t kortyghai_count_frame(size_t clusters, size_t size, uint32_t q, size_t 
  * Refuses, the first that holds: of the state 1, 2, 9, 8, 3, as above, then 14 (after round 4,294,967,295 there is no next),
  * 12 (a user has not reported in round r).
  */
-uint64_t kortyghai_advance(size_t clusters, size_t size, uint32_t q, size_t length, size_t cluster, uint32_t *number,
-                           uint16_t *reported, uint32_t *sums, uint16_t *ahead, uint32_t *held);
+uint64_t kortyghai_relay_advance(const uint32_t counts[KORTYGHAI_COUNTS], uint32_t *number, uint16_t *reported, uint32_t *sums,
+                                 uint16_t *ahead, uint32_t *held);
 
 /*
  * A relay's sums of round r, once every user of its cluster has reported in it. The relay's state is handed over as above; none
  * of it changes. What is held for the next round is checked with the rest, and not given.
  *
- *     length     L, from 1 to 64
- *     cluster    the relay's own number, from 1 to U
+ *     counts     U, V, q, L (from 1 to 64) and the relay's own number, from 1 to U
  *     number     the round's number r
  *     reported   one bit for each user of the cluster
  *     sums       exactly 64 symbols, 0 past the first L
@@ -200,9 +200,8 @@ uint64_t kortyghai_advance(size_t clusters, size_t size, uint32_t q, size_t leng
  *
  * Refuses, the first that holds: of the state 1, 2, 9, 8, 3, as above, then 12 (a user has not reported in round r), 4 (out).
  */
-uint64_t kortyghai_give_sums(size_t clusters, size_t size, uint32_t q, size_t length, size_t cluster, uint32_t number,
-                             uint16_t reported, const uint32_t *sums, uint16_t ahead, const uint32_t *held, uint32_t *out,
-                             size_t out_len);
+uint64_t kortyghai_relay_give(const uint32_t counts[KORTYGHAI_COUNTS], uint32_t number, uint16_t reported, const uint32_t *sums,
+                              uint16_t ahead, const uint32_t *held, uint32_t *out, size_t out_len);
 
 #ifdef __cplusplus
 }

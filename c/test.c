@@ -28,6 +28,9 @@ static int same(const uint32_t *a, const uint32_t *b, size_t n) {
     return memcmp(a, b, n * sizeof *a) == 0;
 }
 
+/* The numbers of a plan (U, V, T, R and q) or of a round (U, V, q, L and the cluster), lent in one run. */
+#define FIVE(...) ((const uint32_t[KORTYGHAI_COUNTS]){__VA_ARGS__})
+
 static const uint32_t TABLE[12] = {1, 0, 0, 1, 2, 4, 1, 4, 1, 2, 4, 0};
 
 static const uint8_t RECORD[34] = {0x02, 0x02, 0x01, 0x03, 0x05, 0x00, 0x01, 0x00, 0x00, 0x00, 0x00, 0x00,
@@ -48,20 +51,20 @@ static int marked(const uint32_t *buffer, size_t n) {
 static void vet(void) {
     const uint32_t zeros[2] = {0, 0}, ones[2] = {1, 1};
     uint32_t other[12];
-    CHECK(is(kortyghai_vet(2, 2, 1, 3, 5, TABLE, 12), 0, 0, 0));
-    CHECK(is(kortyghai_vet(2, 2, 2, 3, 5, TABLE, 12), 7, 3, 2));
-    CHECK(is(kortyghai_vet(2, 1, 0, 1, 5, zeros, 2), 7, 0, 1));
-    CHECK(is(kortyghai_vet(2, 1, 0, 1, 5, ones, 2), 6, 1, 0));
-    CHECK(is(kortyghai_vet(1, 1, 0, 1, 5, zeros, 1), 7, 0, 1));
-    CHECK(is(kortyghai_vet(9, 2, 1, 3, 5, TABLE, 12), 1, 0, 0));
-    CHECK(is(kortyghai_vet(SIZE_MAX, SIZE_MAX, 1, 3, 5, TABLE, 12), 1, 0, 0));
-    CHECK(is(kortyghai_vet(2, 2, 1, 3, 5, TABLE, 11), 4, 0, 0));
-    CHECK(is(kortyghai_vet(2, 2, 1, 3, 5, TABLE, 0), 4, 0, 0));
-    CHECK(is(kortyghai_vet(2, 2, 1, 3, 9, TABLE, 12), 2, 0, 0));
-    CHECK(is(kortyghai_vet(2, 2, 1, 3, 3, TABLE, 12), 3, 0, 0));
+    CHECK(is(kortyghai_vet(FIVE(2, 2, 1, 3, 5), TABLE, 12), 0, 0, 0));
+    CHECK(is(kortyghai_vet(FIVE(2, 2, 2, 3, 5), TABLE, 12), 7, 3, 2));
+    CHECK(is(kortyghai_vet(FIVE(2, 1, 0, 1, 5), zeros, 2), 7, 0, 1));
+    CHECK(is(kortyghai_vet(FIVE(2, 1, 0, 1, 5), ones, 2), 6, 1, 0));
+    CHECK(is(kortyghai_vet(FIVE(1, 1, 0, 1, 5), zeros, 1), 7, 0, 1));
+    CHECK(is(kortyghai_vet(FIVE(9, 2, 1, 3, 5), TABLE, 12), 1, 0, 0));
+    CHECK(is(kortyghai_vet(FIVE(UINT32_MAX, UINT32_MAX, 1, 3, 5), TABLE, 12), 1, 0, 0));
+    CHECK(is(kortyghai_vet(FIVE(2, 2, 1, 3, 5), TABLE, 11), 4, 0, 0));
+    CHECK(is(kortyghai_vet(FIVE(2, 2, 1, 3, 5), TABLE, 0), 4, 0, 0));
+    CHECK(is(kortyghai_vet(FIVE(2, 2, 1, 3, 9), TABLE, 12), 2, 0, 0));
+    CHECK(is(kortyghai_vet(FIVE(2, 2, 1, 3, 3), TABLE, 12), 3, 0, 0));
     memcpy(other, TABLE, sizeof other);
     other[11] = 1;
-    CHECK(is(kortyghai_vet(2, 2, 1, 3, 5, other, 12), 6, 3, 0));
+    CHECK(is(kortyghai_vet(FIVE(2, 2, 1, 3, 5), other, 12), 6, 3, 0));
 }
 
 static void vet_record(void) {
@@ -85,48 +88,53 @@ static void read_record(void) {
     uint8_t bytes[34];
     mark(table, 257);
     mark(counts, 6);
-    CHECK(is(kortyghai_read_record(RECORD, 34, table, 256, counts, 5), 0, 0, 0));
+    CHECK(is(kortyghai_read_record(RECORD, 34, counts, table, 256), 0, 0, 0));
     CHECK(same(table, TABLE, 12) && same(table + 12, zeros, 244) && marked(table + 256, 1));
     CHECK(same(counts, plan, 5) && marked(counts + 5, 1));
     /* the reader doesn't vet: with T 2 the plan leaks */
     memcpy(bytes, RECORD, 34);
     bytes[2] = 2;
-    CHECK(is(kortyghai_read_record(bytes, 34, table, 256, counts, 5), 0, 0, 0) && counts[2] == 2);
+    CHECK(is(kortyghai_read_record(bytes, 34, counts, table, 256), 0, 0, 0) && counts[2] == 2);
 
     mark(table, 257);
     mark(counts, 6);
-    /* 5, 1, 4, 2, 3: wrong counts are 4, after 5 and 1 and before 2 and 3 */
-    CHECK(is(kortyghai_read_record(RECORD, 33, table, 256, counts, 5), 5, 0, 0));
-    CHECK(is(kortyghai_read_record(RECORD, 33, table, 256, counts, 4), 5, 0, 0));
-    CHECK(is(kortyghai_read_record(RECORD, 34, table, 255, counts, 5), 4, 0, 0));
-    CHECK(is(kortyghai_read_record(RECORD, 34, table, 257, counts, 5), 4, 0, 0));
-    CHECK(is(kortyghai_read_record(RECORD, 34, table, 256, counts, 6), 4, 0, 0));
-    CHECK(is(kortyghai_read_record(RECORD, 34, table, 256, counts, 4), 4, 0, 0));
-    CHECK(is(kortyghai_read_record(RECORD, 34, table, 256, counts, 0), 4, 0, 0));
-    CHECK(is(kortyghai_read_record(RECORD, 34, table, 257, counts, 6), 4, 0, 0));
+    /* 5, 1, 4, 2, 3: a wrong table is 4, after 5 and 1 and before 2 and 3 */
+    CHECK(is(kortyghai_read_record(RECORD, 33, counts, table, 256), 5, 0, 0));
+    CHECK(is(kortyghai_read_record(RECORD, 33, counts, table, 255), 5, 0, 0));
+    CHECK(is(kortyghai_read_record(RECORD, 34, counts, table, 255), 4, 0, 0));
+    CHECK(is(kortyghai_read_record(RECORD, 34, counts, table, 257), 4, 0, 0));
     bytes[2] = 5;
-    CHECK(is(kortyghai_read_record(bytes, 34, table, 256, counts, 5), 1, 0, 0));
-    CHECK(is(kortyghai_read_record(bytes, 34, table, 256, counts, 6), 1, 0, 0));
+    CHECK(is(kortyghai_read_record(bytes, 34, counts, table, 256), 1, 0, 0));
+    CHECK(is(kortyghai_read_record(bytes, 34, counts, table, 255), 1, 0, 0));
     bytes[2] = 1;
     bytes[4] = 9;
-    CHECK(is(kortyghai_read_record(bytes, 34, table, 256, counts, 5), 2, 0, 0));
-    CHECK(is(kortyghai_read_record(bytes, 34, table, 256, counts, 6), 4, 0, 0));
+    CHECK(is(kortyghai_read_record(bytes, 34, counts, table, 256), 2, 0, 0));
+    CHECK(is(kortyghai_read_record(bytes, 34, counts, table, 255), 4, 0, 0));
     bytes[4] = 3;
-    CHECK(is(kortyghai_read_record(bytes, 34, table, 256, counts, 5), 3, 0, 0));
-    CHECK(is(kortyghai_read_record(bytes, 34, table, 256, counts, 6), 4, 0, 0));
+    CHECK(is(kortyghai_read_record(bytes, 34, counts, table, 256), 3, 0, 0));
+    CHECK(is(kortyghai_read_record(bytes, 34, counts, table, 255), 4, 0, 0));
     CHECK(marked(table, 257) && marked(counts, 6));
+}
+
+/* The table maker, lent a plan without its rate. An accepted call puts the rate there, and a refused one nothing. */
+static uint64_t make(uint32_t u, uint32_t v, uint32_t limit, uint32_t q, uint32_t generator, uint32_t *table, size_t symbols) {
+    uint32_t plan[KORTYGHAI_COUNTS] = {u, v, limit, 0xABCDABCD, q};
+    uint64_t answer = kortyghai_make_table(plan, generator, table, symbols);
+    CHECK(plan[0] == u && plan[1] == v && plan[2] == limit && plan[4] == q);
+    CHECK(answer ? marked(plan + 3, 1) : (size_t)u * v * plan[3] == symbols);
+    return answer;
 }
 
 static void make_table(void) {
     uint32_t table[13];
     mark(table, 13);
-    CHECK(is(kortyghai_make_table(2, 2, 2, 5, 2, table, 12), 10, 0, 0));
-    CHECK(is(kortyghai_make_table(2, 2, 1, 9, 2, table, 12), 2, 0, 0));
-    CHECK(is(kortyghai_make_table(2, 2, 1, 5, 5, table, 12), 3, 0, 0));
-    CHECK(is(kortyghai_make_table(2, 9, 1, 5, 2, table, 12), 1, 0, 0));
-    CHECK(is(kortyghai_make_table(2, 2, 1, 5, 2, table, 13), 4, 0, 0));
+    CHECK(is(make(2, 2, 2, 5, 2, table, 12), 10, 0, 0));
+    CHECK(is(make(2, 2, 1, 9, 2, table, 12), 2, 0, 0));
+    CHECK(is(make(2, 2, 1, 5, 5, table, 12), 3, 0, 0));
+    CHECK(is(make(2, 9, 1, 5, 2, table, 12), 1, 0, 0));
+    CHECK(is(make(2, 2, 1, 5, 2, table, 13), 4, 0, 0));
     CHECK(marked(table, 13));
-    CHECK(is(kortyghai_make_table(2, 2, 1, 5, 2, table, 12), 0, 0, 0));
+    CHECK(is(make(2, 2, 1, 5, 2, table, 12), 0, 0, 0));
     CHECK(same(table, TABLE, 12) && marked(table + 12, 1));
 }
 
@@ -134,14 +142,14 @@ static void derive_keys(void) {
     const uint32_t source[3] = {1, 2, 3}, bad[3] = {1, 2, 5}, wanted[4] = {1, 2, 2, 0};
     uint32_t keys[5];
     mark(keys, 5);
-    CHECK(is(kortyghai_derive_keys(2, 2, 2, 3, 5, TABLE, 12, 1, source, 3, keys, 4), 7, 3, 2));
-    CHECK(is(kortyghai_derive_keys(2, 2, 1, 3, 5, TABLE, 12, 0, source, 3, keys, 4), 9, 0, 0));
-    CHECK(is(kortyghai_derive_keys(2, 2, 1, 3, 5, TABLE, 12, 65, source, 3, keys, 4), 9, 0, 0));
-    CHECK(is(kortyghai_derive_keys(2, 2, 1, 3, 5, TABLE, 12, 1, source, 2, keys, 4), 4, 0, 0));
-    CHECK(is(kortyghai_derive_keys(2, 2, 1, 3, 5, TABLE, 12, 1, source, 3, keys, 5), 4, 0, 0));
-    CHECK(is(kortyghai_derive_keys(2, 2, 1, 3, 5, TABLE, 12, 1, bad, 3, keys, 4), 3, 0, 0));
+    CHECK(is(kortyghai_derive_keys(FIVE(2, 2, 2, 3, 5), TABLE, 12, 1, source, 3, keys, 4), 7, 3, 2));
+    CHECK(is(kortyghai_derive_keys(FIVE(2, 2, 1, 3, 5), TABLE, 12, 0, source, 3, keys, 4), 9, 0, 0));
+    CHECK(is(kortyghai_derive_keys(FIVE(2, 2, 1, 3, 5), TABLE, 12, 65, source, 3, keys, 4), 9, 0, 0));
+    CHECK(is(kortyghai_derive_keys(FIVE(2, 2, 1, 3, 5), TABLE, 12, 1, source, 2, keys, 4), 4, 0, 0));
+    CHECK(is(kortyghai_derive_keys(FIVE(2, 2, 1, 3, 5), TABLE, 12, 1, source, 3, keys, 5), 4, 0, 0));
+    CHECK(is(kortyghai_derive_keys(FIVE(2, 2, 1, 3, 5), TABLE, 12, 1, bad, 3, keys, 4), 3, 0, 0));
     CHECK(marked(keys, 5));
-    CHECK(is(kortyghai_derive_keys(2, 2, 1, 3, 5, TABLE, 12, 1, source, 3, keys, 4), 0, 0, 0));
+    CHECK(is(kortyghai_derive_keys(FIVE(2, 2, 1, 3, 5), TABLE, 12, 1, source, 3, keys, 4), 0, 0, 0));
     CHECK(same(keys, wanted, 4) && marked(keys + 4, 1));
 }
 
@@ -171,35 +179,35 @@ static void frames(void) {
     uint32_t number = 9, sums[64] = {0}, held[64] = {0}, out[2];
     uint16_t reported = 0, ahead = 0;
     mark(out, 2);
-    CHECK(is(kortyghai_count_frame(2, 2, 5, 1, 1, 9, &reported, sums, &ahead, held, 1, 9, first, 1), 0, 0, 0));
+    CHECK(is(kortyghai_relay_count(FIVE(2, 2, 5, 1, 1), 9, &reported, sums, &ahead, held, 1, 9, first, 1), 0, 0, 0));
     CHECK(reported == 1 && sums[0] == 4);
-    CHECK(is(kortyghai_give_sums(2, 2, 5, 1, 1, 9, reported, sums, ahead, held, out, 1), 12, 0, 0));
-    CHECK(is(kortyghai_count_frame(2, 2, 5, 1, 1, 9, &reported, sums, &ahead, held, 1, 9, second, 1), 11, 0, 0));
-    CHECK(is(kortyghai_count_frame(2, 2, 5, 1, 1, 9, &reported, sums, &ahead, held, 2, 8, second, 1), 14, 0, 0));
-    CHECK(is(kortyghai_count_frame(2, 2, 5, 1, 1, 9, &reported, sums, &ahead, held, 2, 9, bad, 1), 3, 0, 0));
-    CHECK(is(kortyghai_count_frame(2, 2, 5, 1, 1, 9, &reported, sums, &ahead, held, 2, 9, second, 0), 4, 0, 0));
-    CHECK(is(kortyghai_count_frame(2, 2, 5, 1, 1, 9, &reported, sums, &ahead, held, 3, 9, second, 1), 8, 0, 0));
-    CHECK(is(kortyghai_count_frame(2, 2, 5, 1, 3, 9, &reported, sums, &ahead, held, 2, 9, second, 1), 8, 0, 0));
-    CHECK(is(kortyghai_count_frame(2, 2, 9, 1, 1, 9, &reported, sums, &ahead, held, 2, 9, second, 1), 2, 0, 0));
+    CHECK(is(kortyghai_relay_give(FIVE(2, 2, 5, 1, 1), 9, reported, sums, ahead, held, out, 1), 12, 0, 0));
+    CHECK(is(kortyghai_relay_count(FIVE(2, 2, 5, 1, 1), 9, &reported, sums, &ahead, held, 1, 9, second, 1), 11, 0, 0));
+    CHECK(is(kortyghai_relay_count(FIVE(2, 2, 5, 1, 1), 9, &reported, sums, &ahead, held, 2, 8, second, 1), 14, 0, 0));
+    CHECK(is(kortyghai_relay_count(FIVE(2, 2, 5, 1, 1), 9, &reported, sums, &ahead, held, 2, 9, bad, 1), 3, 0, 0));
+    CHECK(is(kortyghai_relay_count(FIVE(2, 2, 5, 1, 1), 9, &reported, sums, &ahead, held, 2, 9, second, 0), 4, 0, 0));
+    CHECK(is(kortyghai_relay_count(FIVE(2, 2, 5, 1, 1), 9, &reported, sums, &ahead, held, 3, 9, second, 1), 8, 0, 0));
+    CHECK(is(kortyghai_relay_count(FIVE(2, 2, 5, 1, 3), 9, &reported, sums, &ahead, held, 2, 9, second, 1), 8, 0, 0));
+    CHECK(is(kortyghai_relay_count(FIVE(2, 2, 9, 1, 1), 9, &reported, sums, &ahead, held, 2, 9, second, 1), 2, 0, 0));
     CHECK(reported == 1 && sums[0] == 4 && sums[1] == 0);
-    CHECK(is(kortyghai_count_frame(2, 2, 5, 1, 1, 9, &reported, sums, &ahead, held, 2, 9, second, 1), 0, 0, 0));
+    CHECK(is(kortyghai_relay_count(FIVE(2, 2, 5, 1, 1), 9, &reported, sums, &ahead, held, 2, 9, second, 1), 0, 0, 0));
     CHECK(reported == 3 && sums[0] == 0);
-    CHECK(is(kortyghai_give_sums(2, 2, 5, 1, 1, 9, reported, sums, ahead, held, out, 2), 4, 0, 0));
-    CHECK(is(kortyghai_give_sums(2, 2, 5, 1, 1, 9, 7, sums, ahead, held, out, 1), 8, 0, 0));
-    CHECK(is(kortyghai_give_sums(9, 2, 5, 1, 1, 9, reported, sums, ahead, held, out, 1), 1, 0, 0));
+    CHECK(is(kortyghai_relay_give(FIVE(2, 2, 5, 1, 1), 9, reported, sums, ahead, held, out, 2), 4, 0, 0));
+    CHECK(is(kortyghai_relay_give(FIVE(2, 2, 5, 1, 1), 9, 7, sums, ahead, held, out, 1), 8, 0, 0));
+    CHECK(is(kortyghai_relay_give(FIVE(9, 2, 5, 1, 1), 9, reported, sums, ahead, held, out, 1), 1, 0, 0));
     CHECK(marked(out, 2));
-    CHECK(is(kortyghai_give_sums(2, 2, 5, 1, 1, 9, reported, sums, ahead, held, out, 1), 0, 0, 0));
+    CHECK(is(kortyghai_relay_give(FIVE(2, 2, 5, 1, 1), 9, reported, sums, ahead, held, out, 1), 0, 0, 0));
     CHECK(out[0] == 0 && marked(out + 1, 1));
     /* a frame of round 10 comes early, and a late one without symbols; then on to round 10 with what is held */
-    CHECK(is(kortyghai_count_frame(2, 2, 5, 1, 1, 9, &reported, sums, &ahead, held, 2, 10, first, 1), 0, 0, 0));
-    CHECK(is(kortyghai_count_frame(2, 2, 5, 1, 1, 9, &reported, sums, &ahead, held, 2, 10, second, 1), 11, 0, 0));
-    CHECK(is(kortyghai_count_frame(2, 2, 5, 1, 1, 9, &reported, sums, &ahead, held, 1, 8, bad, 0), 14, 0, 0));
+    CHECK(is(kortyghai_relay_count(FIVE(2, 2, 5, 1, 1), 9, &reported, sums, &ahead, held, 2, 10, first, 1), 0, 0, 0));
+    CHECK(is(kortyghai_relay_count(FIVE(2, 2, 5, 1, 1), 9, &reported, sums, &ahead, held, 2, 10, second, 1), 11, 0, 0));
+    CHECK(is(kortyghai_relay_count(FIVE(2, 2, 5, 1, 1), 9, &reported, sums, &ahead, held, 1, 8, bad, 0), 14, 0, 0));
     CHECK(reported == 3 && sums[0] == 0 && ahead == 2 && held[0] == 4);
-    CHECK(is(kortyghai_advance(2, 2, 5, 1, 1, &number, &reported, sums, &ahead, held), 0, 0, 0));
+    CHECK(is(kortyghai_relay_advance(FIVE(2, 2, 5, 1, 1), &number, &reported, sums, &ahead, held), 0, 0, 0));
     CHECK(number == 10 && reported == 2 && sums[0] == 4 && ahead == 0 && held[0] == 0);
-    CHECK(is(kortyghai_advance(2, 2, 5, 1, 1, &number, &reported, sums, &ahead, held), 12, 0, 0));
+    CHECK(is(kortyghai_relay_advance(FIVE(2, 2, 5, 1, 1), &number, &reported, sums, &ahead, held), 12, 0, 0));
     number = 4294967295u;
-    CHECK(is(kortyghai_advance(2, 2, 5, 1, 1, &number, &reported, sums, &ahead, held), 14, 0, 0));
+    CHECK(is(kortyghai_relay_advance(FIVE(2, 2, 5, 1, 1), &number, &reported, sums, &ahead, held), 14, 0, 0));
     CHECK(number == 4294967295u && reported == 2 && sums[0] == 4);
 }
 
@@ -227,31 +235,31 @@ static void primes(void) {
 static void wide_table(void) {
     uint32_t table[13];
     mark(table, 13);
-    CHECK(is(kortyghai_make_table(2, 2, 1, 4294967295u, 65536, table, 12), 2, 0, 0));
-    CHECK(is(kortyghai_make_table(2, 2, 1, MOST_Q, MOST_Q, table, 12), 3, 0, 0));
-    CHECK(is(kortyghai_make_table(2, 2, 1, MOST_Q, 0, table, 12), 7, 0, 1));
+    CHECK(is(make(2, 2, 1, 4294967295u, 65536, table, 12), 2, 0, 0));
+    CHECK(is(make(2, 2, 1, MOST_Q, MOST_Q, table, 12), 3, 0, 0));
+    CHECK(is(make(2, 2, 1, MOST_Q, 0, table, 12), 7, 0, 1));
     CHECK(marked(table, 13));
-    CHECK(is(kortyghai_make_table(2, 2, 1, MOST_Q, 65536, table, 12), 0, 0, 0));
+    CHECK(is(make(2, 2, 1, MOST_Q, 65536, table, 12), 0, 0, 0));
     CHECK(same(table, WIDE_TABLE, 12) && marked(table + 12, 1));
-    CHECK(is(kortyghai_vet(2, 2, 1, 3, MOST_Q, WIDE_TABLE, 12), 0, 0, 0));
-    CHECK(is(kortyghai_vet(2, 2, 2, 3, MOST_Q, WIDE_TABLE, 12), 7, 3, 2));
-    CHECK(is(kortyghai_vet(2, 2, 1, 3, 65537, WIDE_TABLE, 12), 3, 0, 0));
+    CHECK(is(kortyghai_vet(FIVE(2, 2, 1, 3, MOST_Q), WIDE_TABLE, 12), 0, 0, 0));
+    CHECK(is(kortyghai_vet(FIVE(2, 2, 2, 3, MOST_Q), WIDE_TABLE, 12), 7, 3, 2));
+    CHECK(is(kortyghai_vet(FIVE(2, 2, 1, 3, 65537), WIDE_TABLE, 12), 3, 0, 0));
     /* the low 16 bits of a symbol don't decide whether it is below q */
     memcpy(table, TABLE, sizeof TABLE);
     table[4] += 65536;
-    CHECK(is(kortyghai_vet(2, 2, 1, 3, 5, table, 12), 3, 0, 0));
+    CHECK(is(kortyghai_vet(FIVE(2, 2, 1, 3, 5), table, 12), 3, 0, 0));
     memcpy(table, WIDE_TABLE, sizeof WIDE_TABLE);
     table[11] += 1;
-    CHECK(is(kortyghai_vet(2, 2, 1, 3, MOST_Q, table, 12), 6, 3, 0));
+    CHECK(is(kortyghai_vet(FIVE(2, 2, 1, 3, MOST_Q), table, 12), 6, 3, 0));
 }
 
 /* One cluster's two uploads into a round of its relay; its sum. */
-static uint32_t relay_sum(size_t cluster, const uint32_t *uploads) {
+static uint32_t relay_sum(uint32_t cluster, const uint32_t *uploads) {
     uint32_t sums[64] = {0}, held[64] = {0}, out[1] = {0};
     uint16_t reported = 0, ahead = 0;
     for (size_t v = 1; v <= 2; v++)
-        CHECK(is(kortyghai_count_frame(2, 2, MOST_Q, 1, cluster, 9, &reported, sums, &ahead, held, v, 9, uploads + v - 1, 1), 0, 0, 0));
-    CHECK(is(kortyghai_give_sums(2, 2, MOST_Q, 1, cluster, 9, reported, sums, ahead, held, out, 1), 0, 0, 0));
+        CHECK(is(kortyghai_relay_count(FIVE(2, 2, MOST_Q, 1, cluster), 9, &reported, sums, &ahead, held, v, 9, uploads + v - 1, 1), 0, 0, 0));
+    CHECK(is(kortyghai_relay_give(FIVE(2, 2, MOST_Q, 1, cluster), 9, reported, sums, ahead, held, out, 1), 0, 0, 0));
     return out[0];
 }
 
@@ -262,7 +270,7 @@ static void wide_total(void) {
     const uint32_t readings[4] = {4000000000u, 3000000000u, 65536, MOST_Q - 1};
     const uint32_t sent[4] = {3999999999u, 1525163549, 1216145522, 258756465};
     uint32_t keys[4], uploads[4], back[4];
-    CHECK(is(kortyghai_derive_keys(2, 2, 1, 3, MOST_Q, WIDE_TABLE, 12, 1, source, 3, keys, 4), 0, 0, 0));
+    CHECK(is(kortyghai_derive_keys(FIVE(2, 2, 1, 3, MOST_Q), WIDE_TABLE, 12, 1, source, 3, keys, 4), 0, 0, 0));
     CHECK(same(keys, wanted, 4));
     CHECK(is(kortyghai_upload(MOST_Q, 4, readings, 4, keys, 4, uploads, 4), 0, 0, 0));
     CHECK(same(uploads, sent, 4));
@@ -296,16 +304,16 @@ static void read_wide(void) {
     uint8_t bytes[61];
     mark(table, 257);
     mark(counts, 6);
-    CHECK(is(kortyghai_read_record(WIDE_RECORD, 60, table, 256, counts, 5), 0, 0, 0));
+    CHECK(is(kortyghai_read_record(WIDE_RECORD, 60, counts, table, 256), 0, 0, 0));
     CHECK(same(table, WIDE_TABLE, 12) && same(table + 12, zeros, 244) && marked(table + 256, 1));
     CHECK(same(counts, plan, 5) && marked(counts + 5, 1));
-    CHECK(is(kortyghai_read_record(LEAST_RECORD, 20, table, 256, counts, 5), 0, 0, 0));
+    CHECK(is(kortyghai_read_record(LEAST_RECORD, 20, counts, table, 256), 0, 0, 0));
     CHECK(table[0] == 1 && table[1] == 65536 && same(table + 2, zeros, 254));
     CHECK(same(counts, least, 5));
     /* what stands before a record doesn't matter */
     bytes[0] = 0x4B;
     memcpy(bytes + 1, WIDE_RECORD, 60);
-    CHECK(is(kortyghai_read_record(bytes, 61, table, 256, counts, 5), 0, 0, 0) && same(counts, plan, 5));
+    CHECK(is(kortyghai_read_record(bytes, 61, counts, table, 256), 0, 0, 0) && same(counts, plan, 5));
 
     CHECK(is(kortyghai_vet_record(WIDE_RECORD, 60), 0, 0, 0));
     CHECK(is(kortyghai_vet_record(LEAST_RECORD, 20), 0, 0, 0));
@@ -323,7 +331,7 @@ static int refused(const uint8_t *bytes, size_t n, unsigned number) {
     mark(table, 256);
     mark(counts, 5);
     return is(kortyghai_vet_record(bytes, n), number, 0, 0)
-        && is(kortyghai_read_record(bytes, n, table, 256, counts, 5), number, 0, 0) && marked(table, 256) && marked(counts, 5);
+        && is(kortyghai_read_record(bytes, n, counts, table, 256), number, 0, 0) && marked(table, 256) && marked(counts, 5);
 }
 
 /* The same of a record in which other bytes stand from a place on. */
@@ -368,23 +376,22 @@ static void refuse_wide(void) {
     CHECK(REFUSED_WITH(WIDE_RECORD, 3, 4, 0x01, 0x00, 0x01, 0x00));
 }
 
-/* 5, 1, 4, 2, 3: lent places of other lengths are 4, after 5 and 1 and before 2. */
+/* 5, 1, 4, 2, 3: lent tables of other lengths are 4, after 5 and 1 and before 2. */
 static void lend_wrongly(void) {
     uint32_t table[257], counts[6];
     uint8_t bytes[20];
     mark(table, 257);
     mark(counts, 6);
     memcpy(bytes, LEAST_RECORD, 20);
-    CHECK(is(kortyghai_read_record(bytes, 20, table, 255, counts, 5), 4, 0, 0));
-    CHECK(is(kortyghai_read_record(bytes, 20, table, 257, counts, 5), 4, 0, 0));
-    CHECK(is(kortyghai_read_record(bytes, 20, table, 256, counts, 6), 4, 0, 0));
+    CHECK(is(kortyghai_read_record(bytes, 20, counts, table, 255), 4, 0, 0));
+    CHECK(is(kortyghai_read_record(bytes, 20, counts, table, 257), 4, 0, 0));
     bytes[6] = 0;
-    CHECK(is(kortyghai_read_record(bytes, 20, table, 256, counts, 4), 4, 0, 0));
-    CHECK(is(kortyghai_read_record(bytes, 20, table, 256, counts, 5), 2, 0, 0));
+    CHECK(is(kortyghai_read_record(bytes, 20, counts, table, 255), 4, 0, 0));
+    CHECK(is(kortyghai_read_record(bytes, 20, counts, table, 256), 2, 0, 0));
     bytes[2] = 3;
-    CHECK(is(kortyghai_read_record(bytes, 20, table, 256, counts, 4), 1, 0, 0));
+    CHECK(is(kortyghai_read_record(bytes, 20, counts, table, 255), 1, 0, 0));
     bytes[16] = 11;
-    CHECK(is(kortyghai_read_record(bytes, 20, table, 256, counts, 4), 5, 0, 0));
+    CHECK(is(kortyghai_read_record(bytes, 20, counts, table, 255), 5, 0, 0));
     CHECK(marked(table, 257) && marked(counts, 6));
 }
 

@@ -1,4 +1,4 @@
-//! The proved functions, as a caller outside the language sees them: a slice is its address and its length.
+//! The proved functions, as a caller outside the language sees them: a slice is its address and its length, an array its address alone.
 
 use crate::networks::Network;
 use crate::rounds::Relay;
@@ -6,14 +6,10 @@ use crate::windows::{Window, PLACES};
 use crate::{Code, Plan, Symbol};
 
 extern "C" {
-    fn kortyghai_vet(clusters: usize, size: usize, limit: usize, rate: usize, q: Symbol, table: *const Symbol, symbols: usize) -> u64;
-    fn kortyghai_make_table(clusters: usize, size: usize, limit: usize, q: Symbol, generator: Symbol, table: *mut Symbol, symbols: usize) -> u64;
+    fn kortyghai_vet(plan: *const [Symbol; 5], table: *const Symbol, symbols: usize) -> u64;
+    fn kortyghai_make_table(plan: *mut [Symbol; 5], generator: Symbol, table: *mut Symbol, symbols: usize) -> u64;
     fn kortyghai_derive_keys(
-        clusters: usize,
-        size: usize,
-        limit: usize,
-        rate: usize,
-        q: Symbol,
+        plan: *const [Symbol; 5],
         table: *const Symbol,
         symbols: usize,
         length: usize,
@@ -24,12 +20,8 @@ extern "C" {
     ) -> u64;
     fn kortyghai_upload(q: Symbol, length: usize, a: *const Symbol, n: usize, key: *const Symbol, m: usize, out: *mut Symbol, lent: usize) -> u64;
     fn kortyghai_unmask(q: Symbol, length: usize, a: *const Symbol, n: usize, key: *const Symbol, m: usize, out: *mut Symbol, lent: usize) -> u64;
-    fn kortyghai_count_frame(
-        clusters: usize,
-        size: usize,
-        q: Symbol,
-        length: usize,
-        cluster: usize,
+    fn kortyghai_relay_count(
+        counts: *const [Symbol; 5],
         number: u32,
         reported: *mut u16,
         sums: *mut [Symbol; 64],
@@ -40,12 +32,8 @@ extern "C" {
         block: *const Symbol,
         symbols: usize,
     ) -> u64;
-    fn kortyghai_advance(
-        clusters: usize,
-        size: usize,
-        q: Symbol,
-        length: usize,
-        cluster: usize,
+    fn kortyghai_relay_advance(
+        counts: *const [Symbol; 5],
         number: *mut u32,
         reported: *mut u16,
         sums: *mut [Symbol; 64],
@@ -87,22 +75,32 @@ fn unpack(packed: u64) -> Code {
     Code(packed as u16, (packed >> 16) as u16, (packed >> 32) as u16)
 }
 
+/// Numbers as they are lent. One that is too large for that is outside its bounds, and so is what stands for it.
+fn run(numbers: [usize; 5]) -> [Symbol; 5] {
+    numbers.map(|n| Symbol::try_from(n).unwrap_or(Symbol::MAX))
+}
+
+fn plan_run(plan: &Plan) -> [Symbol; 5] {
+    run([plan.clusters, plan.size, plan.limit, plan.rate, plan.q as usize])
+}
+
+fn relay_run(r: &Relay) -> [Symbol; 5] {
+    run([r.clusters, r.size, r.q as usize, r.length, r.cluster])
+}
+
 pub fn vet(plan: &Plan) -> Code {
-    unpack(unsafe { kortyghai_vet(plan.clusters, plan.size, plan.limit, plan.rate, plan.q, plan.table.as_ptr(), plan.table.len()) })
+    unpack(unsafe { kortyghai_vet(&plan_run(plan), plan.table.as_ptr(), plan.table.len()) })
 }
 
 pub fn make(clusters: usize, size: usize, limit: usize, q: Symbol, generator: Symbol, table: &mut [Symbol]) -> Code {
-    unpack(unsafe { kortyghai_make_table(clusters, size, limit, q, generator, table.as_mut_ptr(), table.len()) })
+    let mut plan = run([clusters, size, limit, 0, q as usize]);
+    unpack(unsafe { kortyghai_make_table(&mut plan, generator, table.as_mut_ptr(), table.len()) })
 }
 
 pub fn derive(plan: &Plan, length: usize, source: &[Symbol], keys: &mut [Symbol]) -> Code {
     unpack(unsafe {
         kortyghai_derive_keys(
-            plan.clusters,
-            plan.size,
-            plan.limit,
-            plan.rate,
-            plan.q,
+            &plan_run(plan),
             plan.table.as_ptr(),
             plan.table.len(),
             length,
@@ -132,12 +130,8 @@ pub fn unmask(q: Symbol, length: usize, a: &[Symbol], key: &[Symbol], out: &mut 
 
 pub fn count(r: &mut Relay, sender: usize, said: u32, block: &[Symbol]) -> Code {
     unpack(unsafe {
-        kortyghai_count_frame(
-            r.clusters,
-            r.size,
-            r.q,
-            r.length,
-            r.cluster,
+        kortyghai_relay_count(
+            &relay_run(r),
             r.number,
             &mut r.reported,
             &mut r.sums,
@@ -153,12 +147,8 @@ pub fn count(r: &mut Relay, sender: usize, said: u32, block: &[Symbol]) -> Code 
 
 pub fn advance(r: &mut Relay) -> Code {
     unpack(unsafe {
-        kortyghai_advance(
-            r.clusters,
-            r.size,
-            r.q,
-            r.length,
-            r.cluster,
+        kortyghai_relay_advance(
+            &relay_run(r),
             &mut r.number,
             &mut r.reported,
             &mut r.sums,

@@ -31,11 +31,17 @@ pub type Symbol = u32;
 /// How many symbols a table has that is lent to the reader of a record.
 pub const READ_TABLE: usize = 256;
 
-/// How many numbers a plan has beside its key table: U, V, T, R and q.
+/// How many numbers a plan has beside its key table: U, V, T, R and q. As many of a round are handed over in one run: U, V, q, L and
+/// the cluster.
 pub const COUNTS: usize = 5;
 
 /// The most positions of a block.
 pub const MAX_LENGTH: usize = 64;
+
+/// A count as the archive takes it. One that is too large for that is outside its bounds, and so is what stands for it.
+fn narrow(count: usize) -> Symbol {
+    Symbol::try_from(count).unwrap_or(Symbol::MAX)
+}
 
 /// `clusters` clusters of `size` users each, coalitions of at most `limit` users, `rate` source symbols a position, and a prime
 /// `q`. The key table goes beside it: a row of `rate` symbols for each user, cluster by cluster.
@@ -60,15 +66,17 @@ impl Plan {
     pub fn symbols(&self) -> usize {
         self.users().saturating_mul(self.rate)
     }
+
+    fn counts(&self) -> [Symbol; COUNTS] {
+        [narrow(self.clusters), narrow(self.size), narrow(self.limit), narrow(self.rate), self.q]
+    }
 }
 
 /// The vet: is the plan good, and does its key table hide from each relay and from the server what it has to hide?
 ///
 /// Refuses, the first that holds: 1, 4 (`table` has not exactly U × V × R symbols), 2, 3, 6, 7.
 pub fn vet(plan: &Plan, table: &[Symbol]) -> Result<(), Refusal> {
-    Refusal::unpack(unsafe {
-        raw::kortyghai_vet(plan.clusters, plan.size, plan.limit, plan.rate, plan.q, table.as_ptr(), table.len())
-    })
+    Refusal::unpack(unsafe { raw::kortyghai_vet(&plan.counts(), table.as_ptr(), table.len()) })
 }
 
 /// The vet's answer on the plan record at the end of the bytes, old or wide as in [`read_record`]. What stands before the record
@@ -80,13 +88,11 @@ pub fn vet_record(bytes: &[u8]) -> Result<(), Refusal> {
 }
 
 /// Reads the plan record at the end of the bytes into lent buffers, without vetting it: the key table and 0 past it into
-/// `table`, which has exactly [`READ_TABLE`] symbols, and U, V, T, R and q into `counts`, which has exactly [`COUNTS`] places.
+/// `table`, which has exactly [`READ_TABLE`] symbols, and U, V, T, R and q into `counts`.
 ///
-/// Refuses, the first that holds: 5, 1, 4 (the record's length, `table` or `counts`), 2, 3, as [`read_record`] does.
-pub fn read_record_into(bytes: &[u8], table: &mut [Symbol], counts: &mut [Symbol]) -> Result<(), Refusal> {
-    Refusal::unpack(unsafe {
-        raw::kortyghai_read_record(bytes.as_ptr(), bytes.len(), table.as_mut_ptr(), table.len(), counts.as_mut_ptr(), counts.len())
-    })
+/// Refuses, the first that holds: 5, 1, 4 (the record's length, or `table`), 2, 3, as [`read_record`] does.
+pub fn read_record_into(bytes: &[u8], table: &mut [Symbol], counts: &mut [Symbol; COUNTS]) -> Result<(), Refusal> {
+    Refusal::unpack(unsafe { raw::kortyghai_read_record(bytes.as_ptr(), bytes.len(), counts, table.as_mut_ptr(), table.len()) })
 }
 
 /// The plan and the key table of the record at the end of the bytes, not vetted.
@@ -126,9 +132,8 @@ fn rate_of(clusters: usize, size: usize, limit: usize) -> Option<usize> {
 ///
 /// Refuses, the first that holds: 1, 2, 3 (`generator` is not below q), 10, 4 (`table`), 7.
 pub fn make_table_into(clusters: usize, size: usize, limit: usize, q: Symbol, generator: Symbol, table: &mut [Symbol]) -> Result<(), Refusal> {
-    Refusal::unpack(unsafe {
-        raw::kortyghai_make_table(clusters, size, limit, q, generator, table.as_mut_ptr(), table.len())
-    })
+    let mut counts = Plan { clusters, size, limit, rate: 0, q }.counts();
+    Refusal::unpack(unsafe { raw::kortyghai_make_table(&mut counts, generator, table.as_mut_ptr(), table.len()) })
 }
 
 /// A plan that the vet accepts and its key table, made of powers of the symbol `generator`.
@@ -148,11 +153,7 @@ pub fn make_table(clusters: usize, size: usize, limit: usize, q: Symbol, generat
 pub fn derive_keys_into(plan: &Plan, table: &[Symbol], length: usize, source: &[Symbol], keys: &mut [Symbol]) -> Result<(), Refusal> {
     Refusal::unpack(unsafe {
         raw::kortyghai_derive_keys(
-            plan.clusters,
-            plan.size,
-            plan.limit,
-            plan.rate,
-            plan.q,
+            &plan.counts(),
             table.as_ptr(),
             table.len(),
             length,
@@ -244,6 +245,14 @@ pub struct RelayRound {
     pub held: [Symbol; MAX_LENGTH],
 }
 
+impl RelayRound {
+    // open to the program `hostile_frames`, as `raw` is
+    #[doc(hidden)]
+    pub fn counts(&self) -> [Symbol; COUNTS] {
+        [narrow(self.clusters), narrow(self.size), self.q, narrow(self.length), narrow(self.cluster)]
+    }
+}
+
 /// A frame into a relay's round: a sender from 1 to V, the round number `said` in it, and a block of exactly L symbols, which
 /// are added to the sums; those of a frame for the next round to the held ones. After round 4,294,967,295 there is no next.
 ///
@@ -251,12 +260,8 @@ pub struct RelayRound {
 /// 11 (the sender has reported in the frame's round).
 pub fn count_frame(round: &mut RelayRound, sender: usize, said: u32, block: &[Symbol]) -> Result<(), Refusal> {
     Refusal::unpack(unsafe {
-        raw::kortyghai_count_frame(
-            round.clusters,
-            round.size,
-            round.q,
-            round.length,
-            round.cluster,
+        raw::kortyghai_relay_count(
+            &round.counts(),
             round.number,
             &mut round.reported,
             &mut round.sums,
@@ -276,12 +281,8 @@ pub fn count_frame(round: &mut RelayRound, sender: usize, said: u32, block: &[Sy
 /// Refuses, the first that holds, for the round: 1, 2, 9, 8, 3; then 14 (after round 4,294,967,295 there is no next), 12.
 pub fn advance(round: &mut RelayRound) -> Result<(), Refusal> {
     Refusal::unpack(unsafe {
-        raw::kortyghai_advance(
-            round.clusters,
-            round.size,
-            round.q,
-            round.length,
-            round.cluster,
+        raw::kortyghai_relay_advance(
+            &round.counts(),
             &mut round.number,
             &mut round.reported,
             &mut round.sums,
@@ -296,12 +297,8 @@ pub fn advance(round: &mut RelayRound) -> Result<(), Refusal> {
 /// Refuses, the first that holds, for the round: 1, 2, 9, 8, 3; then 12, 4 (`out`).
 pub fn give_sums_into(round: &RelayRound, out: &mut [Symbol]) -> Result<(), Refusal> {
     Refusal::unpack(unsafe {
-        raw::kortyghai_give_sums(
-            round.clusters,
-            round.size,
-            round.q,
-            round.length,
-            round.cluster,
+        raw::kortyghai_relay_give(
+            &round.counts(),
             round.number,
             round.reported,
             &round.sums,

@@ -1,18 +1,14 @@
-//! The functions of the archive. A slice is its address and its length.
+//! The functions of the archive. A slice is its address and its length, an array its address alone.
 
-use crate::Symbol;
+use crate::{Symbol, COUNTS};
 
 extern "C" {
-    pub fn kortyghai_vet(clusters: usize, size: usize, limit: usize, rate: usize, q: Symbol, table: *const Symbol, symbols: usize) -> u64;
+    pub fn kortyghai_vet(plan: *const [Symbol; COUNTS], table: *const Symbol, symbols: usize) -> u64;
     pub fn kortyghai_vet_record(bytes: *const u8, given: usize) -> u64;
-    pub fn kortyghai_read_record(bytes: *const u8, given: usize, table: *mut Symbol, symbols: usize, counts: *mut Symbol, places: usize) -> u64;
-    pub fn kortyghai_make_table(clusters: usize, size: usize, limit: usize, q: Symbol, generator: Symbol, table: *mut Symbol, symbols: usize) -> u64;
+    pub fn kortyghai_read_record(bytes: *const u8, given: usize, plan: *mut [Symbol; COUNTS], table: *mut Symbol, symbols: usize) -> u64;
+    pub fn kortyghai_make_table(plan: *mut [Symbol; COUNTS], generator: Symbol, table: *mut Symbol, symbols: usize) -> u64;
     pub fn kortyghai_derive_keys(
-        clusters: usize,
-        size: usize,
-        limit: usize,
-        rate: usize,
-        q: Symbol,
+        plan: *const [Symbol; COUNTS],
         table: *const Symbol,
         symbols: usize,
         length: usize,
@@ -47,12 +43,8 @@ extern "C" {
 }
 
 extern "C" {
-    pub fn kortyghai_count_frame(
-        clusters: usize,
-        size: usize,
-        q: Symbol,
-        length: usize,
-        cluster: usize,
+    pub fn kortyghai_relay_count(
+        counts: *const [Symbol; COUNTS],
         number: u32,
         reported: *mut u16,
         sums: *mut [Symbol; 64],
@@ -63,24 +55,16 @@ extern "C" {
         block: *const Symbol,
         symbols: usize,
     ) -> u64;
-    pub fn kortyghai_advance(
-        clusters: usize,
-        size: usize,
-        q: Symbol,
-        length: usize,
-        cluster: usize,
+    pub fn kortyghai_relay_advance(
+        counts: *const [Symbol; COUNTS],
         number: *mut u32,
         reported: *mut u16,
         sums: *mut [Symbol; 64],
         ahead: *mut u16,
         held: *mut [Symbol; 64],
     ) -> u64;
-    pub fn kortyghai_give_sums(
-        clusters: usize,
-        size: usize,
-        q: Symbol,
-        length: usize,
-        cluster: usize,
+    pub fn kortyghai_relay_give(
+        counts: *const [Symbol; COUNTS],
         number: u32,
         reported: u16,
         sums: *const [Symbol; 64],

@@ -121,12 +121,11 @@ impl Kind {
         self.vetted.numbers.iter().sum()
     }
 
-    /// The vet of a record, then the reader with lent buffers that are mostly of the right lengths.
+    /// The vet of a record, then the reader with a lent table that is mostly of the right length.
     fn attempt(&mut self, s: &mut Seeded, bytes: &[u8], leaks: Leaks) {
         self.vet_one(bytes, leaks);
         let lent = if s.below(8) > 0 { 256 } else { s.one_of(&[0, 1, 12, 255, 257, 299]) };
-        let places = if s.below(8) > 0 { 5 } else { s.one_of(&[0, 1, 4, 6, 9]) };
-        self.read_one(bytes, lent, places);
+        self.read_one(bytes, lent);
     }
 
     fn vet_one(&mut self, bytes: &[u8], leaks: Leaks) {
@@ -142,11 +141,11 @@ impl Kind {
     }
 
     /// A refused read leaves both lent buffers as they were; an accepted one writes them, and nothing past them.
-    fn read_one(&mut self, bytes: &[u8], lent: usize, places: usize) {
+    fn read_one(&mut self, bytes: &[u8], lent: usize) {
         let (mut table, mut counts) = ([MARK; 300], [MARK; 10]);
-        let got = code(kortyghai::read_record_into(bytes, &mut table[..lent], &mut counts[..places]));
+        let got = code(kortyghai::read_record_into(bytes, &mut table[..lent], counts.first_chunk_mut().unwrap()));
         let (mut full, mut five) = ([MARK; 300], [MARK; 10]);
-        let reading = reader::read(bytes, lent, places);
+        let reading = reader::read(bytes, lent);
         let wanted = reading.code();
         if let Ok(plan) = &reading.plan {
             full[..256].fill(0);
@@ -158,7 +157,7 @@ impl Kind {
         let right = got == wanted && written;
         if !right && self.read.differ < 5 {
             let buffers = if written { "the same buffers" } else { "other buffers" };
-            println!("{}: read_record says {got:?}, the model {wanted:?}, {buffers} ({lent}, {places}): {}", self.name, hex(bytes));
+            println!("{}: read_record says {got:?}, the model {wanted:?}, {buffers} ({lent}): {}", self.name, hex(bytes));
         }
         self.read.add(wanted.0, right);
         self.findings.add_read(&reading);
@@ -297,7 +296,7 @@ mod tests {
 
     #[test]
     fn the_model_reads_both_forms() {
-        let numbers = |bytes: &[u8]| reader::read(bytes, 256, 5).plan.map(|plan| (plan.q, plan.table));
+        let numbers = |bytes: &[u8]| reader::read(bytes, 256).plan.map(|plan| (plan.q, plan.table));
         let q = 4_294_967_291;
         let table = vec![1, 0, 0, 1, 65_536, 5, 1, 5, 25, q - 3, q - 65_541, q - 30];
         assert_eq!(numbers(&buffers::WIDE), Ok((q, table)));
@@ -306,7 +305,7 @@ mod tests {
         let with = |place: usize, by: &[u8]| {
             let mut bytes = buffers::WIDE;
             bytes[place..place + by.len()].copy_from_slice(by);
-            reader::read(&bytes, 256, 5).found()
+            reader::read(&bytes, 256).found()
         };
         assert_eq!([with(56, &[11]), with(56, &[12])], [Found::DistanceTooSmall, Found::OutOfBounds]);
         assert_eq!([with(59, &[0x50]), with(59, &[0x52])], [Found::DistanceNotThePlans, Found::NeitherMark]);

@@ -14,7 +14,7 @@ pub fn vet_record(bytes: &[u8], leaks: fn(&Plan, usize, usize) -> bool) -> (Code
     if bytes.len() > 65_535 {
         return ((4, 0, 0), None);
     }
-    let reading = reader::read(bytes, 256, 5);
+    let reading = reader::read(bytes, 256);
     let code = reading.plan.as_ref().map_or_else(|found| found.code(), |plan| vet(plan, leaks));
     (code, reading.form)
 }

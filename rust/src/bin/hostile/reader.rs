@@ -168,9 +168,9 @@ impl Reading {
     }
 }
 
-/// "Reading a record: 5, 1, 4, 2, 3"; `lent` is how many symbols the lent table has, and `places` how many numbers the lent counts.
-pub fn read(bytes: &[u8], lent: usize, places: usize) -> Reading {
+/// "Reading a record: 5, 1, 4, 2, 3"; `lent` is how many symbols the lent table has.
+pub fn read(bytes: &[u8], lent: usize) -> Reading {
     let form = form_of(bytes);
-    let plan = form.and_then(|form| plan_of(body(bytes, form)?, form, lent == 256 && places == 5));
+    let plan = form.and_then(|form| plan_of(body(bytes, form)?, form, lent == 256));
     Reading { form: form.ok(), plan }
 }

@@ -75,14 +75,10 @@ impl Lent {
 /// A frame.
 pub fn count(round: &RelayRound, frame: &Frame) -> Left {
     let mut lent = Lent::of(round);
-    let given = frame.block.clone();
+    let (given, counts) = (frame.block.clone(), round.counts());
     let answer = unsafe {
-        raw::kortyghai_count_frame(
-            round.clusters,
-            round.size,
-            round.q,
-            round.length,
-            round.cluster,
+        raw::kortyghai_relay_count(
+            &counts,
             round.number,
             &mut lent.reported,
             &mut lent.sums,
@@ -95,19 +91,15 @@ pub fn count(round: &RelayRound, frame: &Frame) -> Left {
         )
     };
     let left = lent.left(round, answer);
-    Left { clean: left.clean && given == frame.block, ..left }
+    Left { clean: left.clean && given == frame.block && counts == round.counts(), ..left }
 }
 
 /// Moving on.
 pub fn advance(round: &RelayRound) -> Left {
-    let mut lent = Lent::of(round);
+    let (mut lent, counts) = (Lent::of(round), round.counts());
     let answer = unsafe {
-        raw::kortyghai_advance(
-            round.clusters,
-            round.size,
-            round.q,
-            round.length,
-            round.cluster,
+        raw::kortyghai_relay_advance(
+            &counts,
             &mut lent.number,
             &mut lent.reported,
             &mut lent.sums,
@@ -115,20 +107,17 @@ pub fn advance(round: &RelayRound) -> Left {
             &mut lent.held,
         )
     };
-    lent.left(round, answer)
+    let left = lent.left(round, answer);
+    Left { clean: left.clean && counts == round.counts(), ..left }
 }
 
 /// The sums asked for, into a buffer of `room` symbols.
 pub fn give(round: &RelayRound, room: usize) -> Left {
-    let lent = Lent::of(round);
+    let (lent, counts) = (Lent::of(round), round.counts());
     let mut out = marked(room);
     let answer = unsafe {
-        raw::kortyghai_give_sums(
-            round.clusters,
-            round.size,
-            round.q,
-            round.length,
-            round.cluster,
+        raw::kortyghai_relay_give(
+            &counts,
             lent.number,
             lent.reported,
             &lent.sums,
@@ -138,7 +127,8 @@ pub fn give(round: &RelayRound, room: usize) -> Left {
             room,
         )
     };
-    Left { out, ..lent.left(round, answer) }
+    let left = lent.left(round, answer);
+    Left { clean: left.clean && counts == round.counts(), out, ..left }
 }
 
 /// The safe crate's answer as a number.
