@@ -1,32 +1,50 @@
 /*
- * Kortyghai for callers in C: plans, their records, the vet, key tables, keys, uploads, and a relay's rounds.
+ * Kortyghai for callers in C: the secure-aggregation core of a power pool, every function of it proved to meet its
+ * contract.
  *
- * Every function answers one number of 64 bits, which packs the number of the refusal (0: nothing is refused) and its two
- * details. Take them out by the three macros below. A refused call writes nothing.
+ * Users (meters) mask their readings by keys, relays (gateways) add what the users of their cluster send, and the server
+ * (desk) adds the relays' sums and learns the total and nothing else. c/pool.c is a whole pool to run and to read;
+ * c/README.md has the commands, and the stack that each call takes.
  *
- * A run of bytes or symbols is passed as its address and its length, the length counted in bytes or symbols. A row of 64 sums,
- * the five numbers of a plan or of a round, and a number that a call may change, are passed as an address alone. No address is
- * null, also where a length is 0. What a call writes to overlaps nothing else that is passed to that call. Nothing is kept
- * between calls, nothing is allocated, and calls from several threads at once don't disturb each other.
+ * TWO LEVELS. The archive has the entries kortyghai_NAME, which take numbers, addresses and lengths alone. Over them this
+ * header has structs, one for each kind of state, and functions kty_NAME that take the structs. kty_NAME is kortyghai_NAME
+ * with the parts of the struct passed in their places: it adds no rule, and what is said of the entry holds of it. Most
+ * callers need kty_NAME alone.
  *
- * A symbol is a whole number below the plan's prime q, held in 32 bits. A plan has
+ * ANSWERS. A call answers one number of 64 bits: the number of the refusal, which is 0 where nothing is refused, and two
+ * details. kortyghai_number, kortyghai_first and kortyghai_second take them out, and kortyghai_refusal_text has words for
+ * the number. Every input is answered: there is nothing that may not be passed but wrong addresses, as said next. A refused
+ * call leaves all lent memory as it was (one report excepted: `looked` of kortyghai_vet_joint).
  *
- *     clusters  U, from 1 to 8
- *     size      V, users in a cluster, from 1 to 8; U x V is at most 16
- *     limit     T, the most users of a coalition, from 0 to U x V
- *     rate      R, source symbols a position, from 1 to 16
- *     q         a prime from 2 to 4,294,967,291
+ * WHAT THE CALLER ANSWERS FOR. A run is passed as its address and its length, which is counted in bytes or numbers; behind
+ * the address there are so many. An array of a stated length and a single number are passed as an address alone. No address
+ * is null, also where a length is 0. What a call writes to overlaps nothing else that is passed to it. Nothing is kept
+ * between calls and nothing is allocated; calls from several threads at once don't disturb each other as long as none
+ * writes to what another has.
  *
- * which are lent as five numbers in this order, and a key table of U x V rows, user by user and cluster by cluster, of R
- * symbols each. The user number v of cluster u, both from 1, has index (u - 1) x V + v - 1. A coalition is a number with one
- * bit for each user's index.
+ * WHAT IT NEEDS. memcpy, memmove and memset, and no other function or library; and stack: 2 KB for a user's calls, 5 KB for
+ * a relay's and the server's, 30 KB for those that vet (c/README.md has each call, measured). It is code for x86-64.
  *
- * A plan record is the bytes of a plan: U, V, T and R in one byte each; q; the symbols of the key table; the distance D from its
- * first byte to its end, in two bytes; two marks. Every number has its low byte first. There are two kinds, and q decides which
- * one a plan has:
+ * SOURCE KEYS. Secrecy is proved for source keys whose symbols are drawn evenly from 0 to q - 1, each with equal chance and
+ * apart from all others. Draw them fresh from a good random generator, without the bias that a remainder modulo q leaves,
+ * and use each once, for one block: two blocks under one key show their difference. The archive has no random generator and
+ * cannot tell.
  *
- *     old    q below 65,536: q and each symbol in two bytes, D = 10 + 2 x U x V x R, marks 4B 50
- *     wide   q of 65,536 or more: q and each symbol in four bytes, D = 12 + 4 x U x V x R, marks 4B 51
+ * TOTALS WRAP. All sums are modulo q: a total of readings is right where it is below q. Of signed readings it is right
+ * where each is from -cap to cap and 2 x U x V x cap is below q; the calls that take a cap refuse every other cap by 16,
+ * and readings outside it by 15. The largest cap of 16 users is 2,047 at q 65,521, and 134,217,727 at q 4,294,967,291.
+ *
+ * TIME. kortyghai_derive_keys vets the plan at each call: of the largest plans that takes some 100 to 150 ms, of 16 users
+ * with T of 1 some 0.15 ms. So do the vets themselves and kortyghai_make_table. docs/SPEED.md has a table, and
+ * kortyghai_count_pairs says beforehand how many pairs of coalition and observer there are. Cyclic networks take tens of
+ * microseconds, all other calls a few at most.
+ *
+ * WHAT THE TIME TELLS. In kortyghai_upload, kortyghai_unmask, kortyghai_signed_upload, kortyghai_signed_unmask,
+ * kortyghai_show_totals and the counting of frames, no jump, no division and no address depends on a reading, a key or a
+ * sum that is accepted; a block that is refused by 3 or 15 shows by the time where its first wrong number stands. This was
+ * seen in the machine code of one compiler and is not proved: docs/MACHINE-CODE.md says what was looked at. All other calls
+ * are not constant-time, among them kortyghai_derive_keys, which divides by q and leaves a division out where there is
+ * nothing to divide: its time depends on the source key, so derive keys where nobody can measure it.
  */
 #ifndef KORTYGHAI_H
 #define KORTYGHAI_H
@@ -36,172 +54,857 @@
 
 #ifdef __cplusplus
 extern "C" {
+#define KORTYGHAI_STATIC_ASSERT(what, words) static_assert(what, words)
+#else
+#define KORTYGHAI_STATIC_ASSERT(what, words) _Static_assert(what, words)
 #endif
 
-/* What an answer holds: the refusal's number, its first detail and its second. */
-#define KORTYGHAI_NUMBER(answer) ((uint16_t)((uint64_t)(answer) & 0xFFFF))
-#define KORTYGHAI_FIRST(answer) ((uint16_t)((uint64_t)(answer) >> 16 & 0xFFFF))
-#define KORTYGHAI_SECOND(answer) ((uint16_t)((uint64_t)(answer) >> 32 & 0xFFFF))
+/* The version of this header and of the archive that it goes with. */
+#define KORTYGHAI_VERSION "0.2.0"
+#define KORTYGHAI_VERSION_MAJOR 0
+#define KORTYGHAI_VERSION_MINOR 2
+#define KORTYGHAI_VERSION_PATCH 0
 
-/* The numbers. Both details are 0, but for 6 and 7. */
-#define KORTYGHAI_ACCEPTED 0
-#define KORTYGHAI_OUT_OF_BOUNDS 1     /* a count of the plan is outside its bounds */
-#define KORTYGHAI_NOT_PRIME 2         /* q is no prime, or below 65,536 in a wide record */
-#define KORTYGHAI_NOT_A_SYMBOL 3      /* a symbol is not below q */
-#define KORTYGHAI_WRONG_LENGTH 4      /* a buffer, table or record of the wrong length */
-#define KORTYGHAI_BAD_TRAILER 5       /* the bytes don't end with a trailer whose record lies in them */
-#define KORTYGHAI_NOT_ZERO_SUM 6      /* the rows don't sum to zero; first: the first such column, from 1 */
-#define KORTYGHAI_LEAKS 7             /* the plan leaks; first: coalition, second: relay from 1, or 0 for the server */
-#define KORTYGHAI_UNKNOWN_NUMBER 8    /* a user or relay number that the plan doesn't have */
-#define KORTYGHAI_BAD_BLOCK_LENGTH 9  /* the block length is not from 1 to 64 */
-#define KORTYGHAI_LIMIT_TOO_LARGE 10  /* the table maker is given T not less than (U - 1) x V */
-#define KORTYGHAI_ALREADY_REPORTED 11 /* this sender has already reported in the frame's round */
-#define KORTYGHAI_NOT_FULL 12         /* sums, or the next round, wanted while a user has not reported */
-#define KORTYGHAI_STREAM_TOO_SHORT 13 /* the key stream has fewer symbols left than a block needs */
-#define KORTYGHAI_OTHER_ROUND 14      /* the frame is of another round, or there is no next round */
+/* ==== bounds ==== */
 
-/* How many symbols the reader's table has, how many numbers of a plan or a round are lent in one run, and the most bytes that
- * kortyghai_vet_record takes. */
-#define KORTYGHAI_READ_TABLE 256
-#define KORTYGHAI_COUNTS 5
-#define KORTYGHAI_MOST_BYTES 65535
+#define KORTYGHAI_MAX_CLUSTERS 8       /* U, clusters, each with a relay, from 1 */
+#define KORTYGHAI_MAX_SIZE 8           /* V, users of a cluster, from 1 */
+#define KORTYGHAI_MAX_USERS 16         /* U x V; and T, the most users of a coalition, from 0 to U x V */
+#define KORTYGHAI_MAX_RATE 16          /* R, source symbols of a position, from 1 */
+#define KORTYGHAI_MAX_LENGTH 64        /* L, positions of a block, from 1; the sums of a round stand in 64 places */
+#define KORTYGHAI_MAX_TABLE 256        /* symbols of a key table, U x V x R; the reader of records is lent exactly so many */
+#define KORTYGHAI_MAX_RECORD 1036      /* bytes of a plan record */
+#define KORTYGHAI_MAX_BYTES 65535      /* bytes that kortyghai_vet_record takes */
+#define KORTYGHAI_MAX_SAVE 532         /* bytes of a saved round */
+#define KORTYGHAI_MAX_POOLS 8          /* pools of a stock, from 1 */
+#define KORTYGHAI_MAX_SPAN 96          /* totals of a window, from 1 */
+#define KORTYGHAI_MIN_RING 2           /* K, users and relays of a cyclic network, from 2 */
+#define KORTYGHAI_MAX_RING 8
+#define KORTYGHAI_MAX_PARTS 4          /* n, symbols of a reading in a cyclic network, from 1 */
+#define KORTYGHAI_MAX_COLUMNS 48       /* K x n + R, the reading and source symbols of a cyclic network */
+#define KORTYGHAI_MAX_RING_TABLE 128   /* K x R, the key table of a cyclic network */
+#define KORTYGHAI_MAX_WEIGHTS 320      /* K x d x (n + 1), its coefficients */
+#define KORTYGHAI_MAX_Q 4294967291u    /* the largest prime of 32 bits; q is a prime from 2 on */
+#define KORTYGHAI_LAST_ROUND 4294967295u /* after this round there is no next */
+
+/* ==== answers ==== */
+
+/* The numbers. Both details are 0, but for 6, 7 and 19. */
+enum kortyghai_refusal {
+    KORTYGHAI_ACCEPTED = 0,
+    KORTYGHAI_OUT_OF_BOUNDS = 1,     /* a count outside its bounds */
+    KORTYGHAI_NOT_PRIME = 2,         /* q is no prime, or below 65,536 in a wide record */
+    KORTYGHAI_NOT_A_SYMBOL = 3,      /* a symbol that is not below q, or a sum past position L that is not 0 */
+    KORTYGHAI_WRONG_LENGTH = 4,      /* a buffer, table or record of the wrong length */
+    KORTYGHAI_BAD_TRAILER = 5,       /* a record or save whose end is missing or wrong */
+    KORTYGHAI_NOT_ZERO_SUM = 6,      /* the key table's rows don't sum to zero; first: the first such column, from 1 */
+    KORTYGHAI_LEAKS = 7,             /* the plan leaks; first: the coalition, second: a relay's number, or 0 for the server */
+    KORTYGHAI_UNKNOWN_NUMBER = 8,    /* a user, relay or pool that there is not, or a pair of relays equal or reversed */
+    KORTYGHAI_BAD_BLOCK_LENGTH = 9,  /* L outside 1 to 64 */
+    KORTYGHAI_LIMIT_TOO_LARGE = 10,  /* the table maker is given T not less than (U - 1) x V */
+    KORTYGHAI_ALREADY_REPORTED = 11, /* this sender has already reported in the frame's round */
+    KORTYGHAI_NOT_FULL = 12,         /* sums or the next round wanted while a sender is owing; the largest of no totals */
+    KORTYGHAI_STREAM_TOO_SHORT = 13, /* too few symbols left on the key stream */
+    KORTYGHAI_OTHER_ROUND = 14,      /* the frame is of another round, or there is no next round */
+    KORTYGHAI_OUTSIDE_CAP = 15,      /* a signed reading outside the cap */
+    KORTYGHAI_BAD_CAP = 16,          /* the cap is 0, or 2 x U x V x cap is not below q */
+    KORTYGHAI_BAD_WINDOW = 17,       /* a span outside 1 to 96, or a window that no run of totals leaves */
+    KORTYGHAI_BAD_ROUND_COUNT = 18,  /* rounds of a trial outside 1 to 10,000; no entry of the archive answers it */
+    KORTYGHAI_JOINT_LEAKS = 19,      /* two relays under one lock leak; first: the coalition of least number */
+    KORTYGHAI_PAST_LIMIT = 20,       /* a draw would pass its pool's limit */
+    KORTYGHAI_BAD_STOCK = 21,        /* a reserve above its limit, reserves above the stream, or a stock that no draws leave */
+    KORTYGHAI_BAD_PATTERN = 22,      /* of a cyclic network, d outside 1 to K or n outside 1 to 4 */
+    KORTYGHAI_NOT_DECODABLE = 23,    /* some total symbol is no combination of the sums that have arrived */
+    KORTYGHAI_REFUSALS = 24          /* how many numbers there are */
+};
+
+static inline unsigned kortyghai_number(uint64_t answer) {
+    return (unsigned)(answer & 0xFFFF);
+}
+
+static inline unsigned kortyghai_first(uint64_t answer) {
+    return (unsigned)(answer >> 16 & 0xFFFF);
+}
+
+static inline unsigned kortyghai_second(uint64_t answer) {
+    return (unsigned)(answer >> 32 & 0xFFFF);
+}
+
+/* What has happened, in plain words. */
+static inline const char *kortyghai_refusal_text(unsigned number) {
+    static const char *const texts[KORTYGHAI_REFUSALS] = {
+        "nothing is wrong",
+        "a count is outside its bounds",
+        "q is not a prime number, or too small for a wide record",
+        "a symbol is not below q",
+        "a table, block or record has the wrong length",
+        "the end of the record or save is not a trailer: it is cut off or is none",
+        "the key table's rows don't sum to zero in this column",
+        "the plan leaks to this coalition and observer",
+        "a user, relay or pool number that there is not",
+        "the block length is not from 1 to 64",
+        "the coalition limit is one that no table can meet",
+        "this sender has already reported in the frame's round",
+        "not everyone has reported yet, or there is no total yet",
+        "the key stream has too few symbols left",
+        "the frame belongs to another round, or there is no next round",
+        "a signed reading is outside the cap",
+        "the cap is 0 or too large for the plan's prime",
+        "the window's span is not from 1 to 96, or the window is damaged",
+        "the number of rounds is not from 1 to 10,000",
+        "the two relays together leak to this coalition",
+        "the draw would pass the pool's limit",
+        "the stock's reserves don't fit, or the stock is damaged",
+        "the network's links or the symbols of a reading are outside their bounds",
+        "the sums that have arrived don't give the totals",
+    };
+    return number < KORTYGHAI_REFUSALS ? texts[number] : "no such number";
+}
+
+/* ==== what is lent in one run ==== */
+
+/* A plan: its five numbers, in this order. */
+enum {
+    KORTYGHAI_PLAN_CLUSTERS, /* U, from 1 to 8 */
+    KORTYGHAI_PLAN_SIZE,     /* V, users of a cluster, from 1 to 8; U x V is at most 16 */
+    KORTYGHAI_PLAN_LIMIT,    /* T, the most users of a coalition, from 0 to U x V */
+    KORTYGHAI_PLAN_RATE,     /* R, source symbols of a position, from 1 to 16 */
+    KORTYGHAI_PLAN_Q,        /* q, a prime from 2 to 4,294,967,291 */
+    KORTYGHAI_PLAN_NUMBERS
+};
+
+/* A round of a relay, and of the server, which has no cluster. */
+enum {
+    KORTYGHAI_ROUND_CLUSTERS, /* U */
+    KORTYGHAI_ROUND_SIZE,     /* V */
+    KORTYGHAI_ROUND_Q,        /* q */
+    KORTYGHAI_ROUND_LENGTH,   /* L, positions of a block, from 1 to 64 */
+    KORTYGHAI_ROUND_CLUSTER,  /* of a relay alone: its own number, from 1 to U */
+    KORTYGHAI_RELAY_COUNTS,
+    KORTYGHAI_SERVER_COUNTS = KORTYGHAI_ROUND_CLUSTER
+};
+
+/* A cyclic network: K users and K relays, each user linked to d relays. */
+enum {
+    KORTYGHAI_RING_SIZE,  /* K, from 2 to 8 */
+    KORTYGHAI_RING_LINKS, /* d, from 1 to K */
+    KORTYGHAI_RING_PARTS, /* n, symbols of a reading, from 1 to 4 */
+    KORTYGHAI_RING_RATE,  /* R, source symbols, from 1 to 16 */
+    KORTYGHAI_RING_Q,     /* q, a prime */
+    KORTYGHAI_RING_NUMBERS
+};
+
+/* ==== the entries ==== */
 
 /*
- * The vet: is the plan good, and does it hide what it has to hide?
+ * THE PLANNER. A symbol is a whole number below q, in 32 bits. A key table has U x V rows of R symbols each, user by user
+ * and cluster by cluster. User v of cluster u, both from 1, has index (u - 1) x V + v - 1, and a coalition is a number with
+ * one bit for each user's index. An observer is a relay's number, or 0 for the server.
+ */
+
+/*
+ * The vet: is the plan good, and does its table hide what it has to hide?
  *
  *     plan    U, V, T, R and q
- *     table   the key table, exactly U x V x R symbols
+ *     table   exactly U x V x R symbols
  *
- * Refuses, the first that holds: 1, 4, 2, 3, 6, 7.
+ * Refuses, the first that holds: 1, 4 (table), 2, 3, 6, 7. The first pair that leaks is named: coalitions in rising number,
+ * and for each the relays from 1 to U and then the server. Writes nothing.
  */
-uint64_t kortyghai_vet(const uint32_t plan[KORTYGHAI_COUNTS], const uint32_t *table, size_t table_len);
+uint64_t kortyghai_vet(const uint32_t plan[KORTYGHAI_PLAN_NUMBERS], const uint32_t *table, size_t table_len);
 
 /*
- * The vet's answer on the plan record, old or wide, at the end of the bytes; what stands before the record doesn't matter. It is
- * what the program `vet` prints for these bytes.
+ * The vet with a report, and with two relays under one lock, if there are such.
  *
- *     bytes   at most 65,535 bytes
+ *     first, second   the two relays, the lower first; 0 and 0 for none
+ *     looked          how many pairs of coalition and observer the vet looked at is put there, also where it refuses: all of them
+ *                     where the plan is accepted, the place of the first that leaks, from 1, where it is refused by 7, else 0
  *
- * Refuses, the first that holds: 4 (more than 65,535 bytes), then the reader's 5, 1, 4 (the record's length is not that of its
- * plan), 2, 3, as below, then the vet's 6, 7.
+ * Refuses, the first that holds: 1, 4 (table), 2, 3, 8 (the two are equal, reversed or outside the plan), 6, 7, 19.
+ */
+uint64_t kortyghai_vet_joint(const uint32_t plan[KORTYGHAI_PLAN_NUMBERS], const uint32_t *table, size_t table_len, size_t first,
+                             size_t second, uint32_t *looked);
+
+/*
+ * How many pairs of coalition and observer the vet looks at before it accepts: (U + 1) times the number of sets of at most
+ * T out of U x V users. out gets it.
+ *
+ * Refuses: 1 (U, V or T).
+ */
+uint64_t kortyghai_count_pairs(size_t clusters, size_t size, size_t limit, uint32_t *out);
+
+/*
+ * The rate R = max(V + T, min(U + T - 1, U x V - 1)) of the table that kortyghai_make_table makes. out gets it.
+ *
+ * Refuses, the first that holds: 1 (U, V or T), 10.
+ */
+uint64_t kortyghai_rate(size_t clusters, size_t size, size_t limit, size_t *out);
+
+/*
+ * The table maker: a key table of powers of a symbol, vetted.
+ *
+ *     plan        U, V, T and q; what stands in the place of R decides nothing, and R is put there
+ *     generator   a symbol; one whose powers up to U x V - 1 all differ is a good choice, and another one is tried after 7
+ *     table       exactly U x V x R symbols, R as kortyghai_rate says: the key table is put there
+ *
+ * Refuses, the first that holds: 1 (U, V or T), 2, 3 (generator), 10, 4 (table), 7 (the table that the generator gives
+ * leaks).
+ */
+uint64_t kortyghai_make_table(uint32_t plan[KORTYGHAI_PLAN_NUMBERS], uint32_t generator, uint32_t *table, size_t table_len);
+
+/*
+ * PLAN RECORDS. A plan as bytes: U, V, T and R in one byte each; q; the symbols of the table; the distance D from the first
+ * byte to the end, in two bytes; two marks. Every number has its low byte first. q decides which of two kinds a plan has:
+ *
+ *     old    q below 65,536: q and each symbol in two bytes, D = 10 + 2 x U x V x R, marks 4B 50
+ *     wide   q of 65,536 or more: in four bytes, D = 12 + 4 x U x V x R, marks 4B 51
+ *
+ * The vet's answer on the record at the end of the bytes; what stands before it doesn't matter. It is what the program
+ * `vet` prints.
+ *
+ * Refuses, the first that holds: 4 (more than 65,535 bytes), then as the reader 5, 1, 4, 2, 3, then as the vet 6, 7.
  */
 uint64_t kortyghai_vet_record(const uint8_t *bytes, size_t bytes_len);
 
 /*
- * Reads the plan record, old or wide, at the end of the bytes, without vetting it.
+ * Reads the record at the end of the bytes, without vetting it.
  *
- *     plan     U, V, T, R and q are put there
- *     table    exactly 256 symbols: the key table is put there, and 0 past its U x V x R symbols
+ *     plan    U, V, T, R and q are put there
+ *     table   exactly 256 symbols: the key table is put there, and 0 past its U x V x R symbols
  *
- * Refuses, the first that holds: 5 (under four bytes, neither kind's marks, D under 10 of the old or under 12 of the wide, or
- * beyond the bytes), 1, 4 (D is not that of the record's plan, or table has not exactly 256 symbols), 2 (q is no prime, or below
- * 65,536 in a wide record), 3.
+ * Refuses, the first that holds: 5 (under four bytes, neither kind's marks, D under 10 of the old or 12 of the wide, or
+ * beyond the bytes), 1, 4 (D is not that of the record's plan, or table has not 256 symbols), 2 (no prime, or below 65,536
+ * in a wide one), 3.
  */
-uint64_t kortyghai_read_record(const uint8_t *bytes, size_t bytes_len, uint32_t plan[KORTYGHAI_COUNTS], uint32_t *table,
+uint64_t kortyghai_read_record(const uint8_t *bytes, size_t bytes_len, uint32_t plan[KORTYGHAI_PLAN_NUMBERS], uint32_t *table,
                                size_t table_len);
 
 /*
- * The table maker: a key table for U clusters of V users and coalitions of at most T, made of powers of a symbol and vetted.
- * The rate is R = max(V + T, min(U + T - 1, U x V - 1)).
+ * Writes the record of a plan and its table, without vetting them.
  *
- *     plan        U, V, T and q; R is put in its place, and what stood there decides nothing
- *     generator   a symbol below q
- *     table       exactly U x V x R symbols: the key table is put there
+ *     table   exactly U x V x R symbols
+ *     out     exactly D bytes: the record is put there
  *
- * Refuses, the first that holds: 1, 2, 3, 10, 4, 7 (the table that the generator gives leaks).
+ * Refuses, the first that holds: 1, 4 (table), 2, 3, 4 (out).
  */
-uint64_t kortyghai_make_table(uint32_t plan[KORTYGHAI_COUNTS], uint32_t generator, uint32_t *table, size_t table_len);
+uint64_t kortyghai_write_record(const uint32_t plan[KORTYGHAI_PLAN_NUMBERS], const uint32_t *table, size_t table_len, uint8_t *out,
+                                size_t out_len);
 
 /*
- * Each user's keys, for a plan that the vet accepts.
+ * WHOEVER DEALS KEYS.
  *
- *     plan     U, V, T, R and q
- *     table    the key table, exactly U x V x R symbols
- *     length   L, positions in a block, from 1 to 64
+ * Each user's keys, for a plan that the vet accepts. The vet runs at each call.
+ *
+ *     length   L, positions of a block, from 1 to 64
  *     source   the source key, exactly R x L symbols, position by position
  *     keys     exactly U x V x L symbols: the keys are put there, user by user in index order, L symbols each
  *
- * Refuses, the first that holds: the vet's 1, 4, 2, 3, 6, 7, then 9, 4 (source or keys), 3 (a symbol of source).
+ * Refuses, the first that holds: the vet's 1, 4, 2, 3, 6, 7, then 9, 4 (source or keys), 3 (source).
  */
-uint64_t kortyghai_derive_keys(const uint32_t plan[KORTYGHAI_COUNTS], const uint32_t *table, size_t table_len, size_t length,
+uint64_t kortyghai_derive_keys(const uint32_t plan[KORTYGHAI_PLAN_NUMBERS], const uint32_t *table, size_t table_len, size_t length,
                                const uint32_t *source, size_t source_len, uint32_t *keys, size_t keys_len);
 
 /*
- * A user's upload: reading plus key, position by position, modulo q.
+ * A draw from a key stream, which is a run of symbols and a position: the next symbols, none of them twice.
  *
+ *     position   how many were drawn before, 0 at first; L is added to it
  *     length     L, from 1 to 64
- *     readings   exactly L symbols
- *     key        exactly L symbols
- *     out        exactly L symbols: the upload is put there
+ *     out        exactly L symbols: those from the position on are put there
+ *
+ * Refuses, the first that holds: 9, 4 (out), 13 (fewer than L after the position).
+ */
+uint64_t kortyghai_draw(const uint32_t *stream, size_t stream_len, size_t *position, size_t length, uint32_t *out, size_t out_len);
+
+/*
+ * One key stream for several pools, each with a reserve that it is sure of and a limit, in symbols. A stock is handed over
+ * in parts: how many pools it has, and eight reserves, limits and numbers of symbols drawn, of which those past the pools
+ * are 0. Opens one:
+ *
+ *     pools                     from 1 to 8
+ *     shares, most              the reserves and the limits, one for each pool
+ *     stream                    the key stream; only its length decides here
+ *     reserves, limits, drawn   eight places each: the stock is put there
+ *
+ * Refuses, the first that holds: 1 (pools), 4 (shares or most has not one for each pool), 21 (a reserve above its limit, or
+ * the reserves together above the stream's length).
+ */
+uint64_t kortyghai_stock_open(size_t pools, const size_t *shares, size_t shares_len, const size_t *most, size_t most_len,
+                              const uint32_t *stream, size_t stream_len, size_t reserves[KORTYGHAI_MAX_POOLS],
+                              size_t limits[KORTYGHAI_MAX_POOLS], size_t drawn[KORTYGHAI_MAX_POOLS]);
+
+/*
+ * A draw for one pool, answered where it stays in the pool's limit and leaves for each other pool what that one has not yet
+ * drawn of its reserve. What all pools have drawn is the position.
+ *
+ *     drawn    L is added to that of the pool
+ *     stream   the same as at the opening
+ *     pool     from 1
+ *     length   L, from 1 to 64
+ *     out      exactly L symbols: the next of the stream are put there
+ *
+ * Refuses, the first that holds: 1 (pools), 21 (a stock that no draws on such a stream leave), 8 (pool), 9, 4 (out), 20,
+ * 13.
+ */
+uint64_t kortyghai_stock_draw(size_t pools, const size_t reserves[KORTYGHAI_MAX_POOLS], const size_t limits[KORTYGHAI_MAX_POOLS],
+                              size_t drawn[KORTYGHAI_MAX_POOLS], const uint32_t *stream, size_t stream_len, size_t pool,
+                              size_t length, uint32_t *out, size_t out_len);
+
+/*
+ * A USER.
+ *
+ * An upload: reading plus key, position by position, modulo q.
+ *
+ *     length          L, from 1 to 64
+ *     readings, key   exactly L symbols each
+ *     out             exactly L symbols: the upload is put there
  *
  * Refuses, the first that holds: 2, 9, 4, 3.
  */
 uint64_t kortyghai_upload(uint32_t q, size_t length, const uint32_t *readings, size_t readings_len, const uint32_t *key,
                           size_t key_len, uint32_t *out, size_t out_len);
 
-/*
- * Takes a key off its upload: upload minus key, position by position, modulo q, which gives the readings back.
- *
- *     length   L, from 1 to 64
- *     upload   exactly L symbols
- *     key      exactly L symbols
- *     out      exactly L symbols: the readings are put there
- *
- * Refuses, the first that holds: 2, 9, 4, 3.
- */
-uint64_t kortyghai_unmask(uint32_t q, size_t length, const uint32_t *upload, size_t upload_len, const uint32_t *key,
-                          size_t key_len, uint32_t *out, size_t out_len);
+/* Takes a key off an upload, which gives the readings back. Buffers and refusals as above. */
+uint64_t kortyghai_unmask(uint32_t q, size_t length, const uint32_t *upload, size_t upload_len, const uint32_t *key, size_t key_len,
+                          uint32_t *out, size_t out_len);
 
 /*
- * Counts a frame into a relay's round, or into the next one, whose frames may come early. The relay's state is handed over in
- * numbers. Who has reported and the sums are lent, for both rounds, and stand afterwards as the call leaves them. A new relay has
- * 0 in reported and in ahead, and 64 sums of 0 in sums and in held.
+ * An upload of signed readings, of which a negative one w travels as q + w.
  *
- *     counts     U, V, q, L (from 1 to 64) and the relay's own number, from 1 to U
- *     number     the round's number r
- *     reported   one bit for each user of the cluster who has reported in round r: user v has bit v - 1
- *     sums       the sums of round r, exactly 64 symbols, 0 past the first L
- *     ahead      the same bits for round r + 1
- *     held       the sums of round r + 1, exactly 64 symbols, 0 past the first L
- *     sender     the user's number v, from 1 to V
- *     said       the round number that the frame has: r, or r + 1 (after round 4,294,967,295 there is no next)
- *     block      exactly L symbols
+ *     plan       U, V, T, R and q, all of them in their bounds
+ *     cap        the most that a reading is away from 0; 2 x U x V x cap is below q
+ *     readings   exactly L numbers from -cap to cap
  *
- * Refuses, the first that holds: of the state 1, 2, 9, 8 (cluster, or a bit in reported or ahead that is no user's), 3 (in sums
- * or held, a symbol not below q, or one past the first L that is not 0), then of the frame 8 (sender), 14 (said is neither
- * round's number), 4, 3, 11.
+ * Refuses, the first that holds: 1, 2, 16, 9, 4, 15, 3 (key).
  */
-uint64_t kortyghai_relay_count(const uint32_t counts[KORTYGHAI_COUNTS], uint32_t number, uint16_t *reported, uint32_t *sums,
-                               uint16_t *ahead, uint32_t *held, size_t sender, uint32_t said, const uint32_t *block,
-                               size_t block_len);
+uint64_t kortyghai_signed_upload(const uint32_t plan[KORTYGHAI_PLAN_NUMBERS], uint32_t cap, size_t length, const int32_t *readings,
+                                 size_t readings_len, const uint32_t *key, size_t key_len, uint32_t *out, size_t out_len);
 
 /*
- * Moves a relay on to its next round, once every user of its cluster has reported: number becomes r + 1, reported and sums
- * become what stood in ahead and held, and these become 0. All five are lent, and are otherwise as above. Ask for the sums
- * before: this call writes over them.
+ * Takes a key off such an upload: a symbol t is shown as t where 2 x t is below q, else as t - q. What is shown is not held
+ * to the cap.
  *
- * Refuses, the first that holds: of the state 1, 2, 9, 8, 3, as above, then 14 (after round 4,294,967,295 there is no next),
- * 12 (a user has not reported in round r).
+ * Refuses, the first that holds: 1, 2, 16, 9, 4, 3.
  */
-uint64_t kortyghai_relay_advance(const uint32_t counts[KORTYGHAI_COUNTS], uint32_t *number, uint16_t *reported, uint32_t *sums,
-                                 uint16_t *ahead, uint32_t *held);
+uint64_t kortyghai_signed_unmask(const uint32_t plan[KORTYGHAI_PLAN_NUMBERS], uint32_t cap, size_t length, const uint32_t *upload,
+                                 size_t upload_len, const uint32_t *key, size_t key_len, int32_t *out, size_t out_len);
 
 /*
- * A relay's sums of round r, once every user of its cluster has reported in it. The relay's state is handed over as above; none
- * of it changes. What is held for the next round is checked with the rest, and not given.
+ * A RELAY. Its state is counts (U, V, q, L and its cluster), the number r of its round, and for round r and for r + 1 a
+ * number with one bit for each user who has reported (user v has bit v - 1) and 64 sums, 0 past the first L:
  *
- *     counts     U, V, q, L (from 1 to 64) and the relay's own number, from 1 to U
- *     number     the round's number r
- *     reported   one bit for each user of the cluster
- *     sums       exactly 64 symbols, 0 past the first L
- *     ahead      the bits for the next round
- *     held       its sums, exactly 64 symbols, 0 past the first L
- *     out        exactly L symbols: the sums are put there
+ *     reported, sums   of round r
+ *     ahead, held      of round r + 1, whose frames may come early
  *
- * Refuses, the first that holds: of the state 1, 2, 9, 8, 3, as above, then 12 (a user has not reported in round r), 4 (out).
+ * A state that breaks a bound is refused before all else, the first that holds: 1, 2, 9, 8 (cluster, or a bit that is no
+ * user's), 3 (in sums or held).
+ *
+ * Opens a round: reported and ahead become 0, and so do all 64 sums and all 64 held ones. What stood in them decides
+ * nothing. Any number will do for the round, which the caller keeps.
+ *
+ * Refuses, the first that holds: 1, 2, 9, 8 (cluster).
  */
-uint64_t kortyghai_relay_give(const uint32_t counts[KORTYGHAI_COUNTS], uint32_t number, uint16_t reported, const uint32_t *sums,
-                              uint16_t ahead, const uint32_t *held, uint32_t *out, size_t out_len);
+uint64_t kortyghai_relay_open(const uint32_t counts[KORTYGHAI_RELAY_COUNTS], uint16_t *reported, uint32_t sums[KORTYGHAI_MAX_LENGTH],
+                              uint16_t *ahead, uint32_t held[KORTYGHAI_MAX_LENGTH]);
+
+/*
+ * Counts a frame into round r or, where it says so, into r + 1.
+ *
+ *     sender   the user's number v, from 1 to V
+ *     said     the round number that the frame has
+ *     block    exactly L symbols, the user's upload
+ *
+ * Refuses, the first that holds: the state's 1, 2, 9, 8, 3, then 8 (sender), 14 (said is neither round's number), 4, 3, 11.
+ */
+uint64_t kortyghai_relay_count(const uint32_t counts[KORTYGHAI_RELAY_COUNTS], uint32_t number, uint16_t *reported,
+                               uint32_t sums[KORTYGHAI_MAX_LENGTH], uint16_t *ahead, uint32_t held[KORTYGHAI_MAX_LENGTH],
+                               size_t sender, uint32_t said, const uint32_t *block, size_t block_len);
+
+/*
+ * Moves on to round r + 1, once every user has reported in r: number becomes r + 1, reported and sums become what stood in
+ * ahead and held, and these become 0. Ask for the sums before.
+ *
+ * Refuses, the first that holds: the state's 1, 2, 9, 8, 3, then 14 (r is 4,294,967,295), 12.
+ */
+uint64_t kortyghai_relay_advance(const uint32_t counts[KORTYGHAI_RELAY_COUNTS], uint32_t *number, uint16_t *reported,
+                                 uint32_t sums[KORTYGHAI_MAX_LENGTH], uint16_t *ahead, uint32_t held[KORTYGHAI_MAX_LENGTH]);
+
+/*
+ * The sums of round r, once every user has reported in it. The state stays as it is.
+ *
+ *     out   exactly L symbols: the sums are put there
+ *
+ * Refuses, the first that holds: the state's 1, 2, 9, 8, 3, then 12, 4 (out).
+ */
+uint64_t kortyghai_relay_give(const uint32_t counts[KORTYGHAI_RELAY_COUNTS], uint32_t number, uint16_t reported,
+                              const uint32_t sums[KORTYGHAI_MAX_LENGTH], uint16_t ahead, const uint32_t held[KORTYGHAI_MAX_LENGTH],
+                              uint32_t *out, size_t out_len);
+
+/*
+ * Saves the state right after the used bytes of a buffer. A save has D = 20 + 8 x L bytes: U, V, cluster and L in one byte
+ * each; q and r in four; reported and ahead in two; L sums and L held ones in four each; D in two; 4B 52. Low bytes come
+ * first.
+ *
+ *     out    the buffer; the bytes before the used ones' end and after the save stay as they are
+ *     used   how many bytes are used; D is added to it
+ *
+ * Refuses, the first that holds: the state's 1, 2, 9, 8, 3, then 4 (fewer than D bytes free).
+ */
+uint64_t kortyghai_relay_save(const uint32_t counts[KORTYGHAI_RELAY_COUNTS], uint32_t number, uint16_t reported,
+                              const uint32_t sums[KORTYGHAI_MAX_LENGTH], uint16_t ahead, const uint32_t held[KORTYGHAI_MAX_LENGTH],
+                              uint8_t *out, size_t out_len, size_t *used);
+
+/*
+ * Comes back from a save. Users then send again what they sent since, the same symbols under the same key.
+ *
+ *     saved   the used bytes alone, which end with the last save
+ *     steps   how many saves back, 0 for the last
+ *     others  the state is put there
+ *
+ * Refuses, the first that holds: 5 (at this save or one on the way: no room for a trailer, another mark, D under 20, or a
+ * step beyond the first), 1, 9, 4 (D is not that of L), 2, 8, 3.
+ */
+uint64_t kortyghai_relay_restore(const uint8_t *saved, size_t saved_len, size_t steps, uint32_t counts[KORTYGHAI_RELAY_COUNTS],
+                                 uint32_t *number, uint16_t *reported, uint32_t sums[KORTYGHAI_MAX_LENGTH], uint16_t *ahead,
+                                 uint32_t held[KORTYGHAI_MAX_LENGTH]);
+
+/*
+ * THE SERVER. Its state is counts (U, V, q and L), the number of its round, one bit for each relay that has reported (relay
+ * u has bit u - 1) and 64 sums, 0 past the first L. A state that breaks a bound is refused before all else, the first that
+ * holds: 1, 2, 9, 8 (a bit that is no relay's), 3.
+ *
+ * Opens a round: reported and all 64 sums become 0. Refuses, the first that holds: 1, 2, 9.
+ */
+uint64_t kortyghai_server_open(const uint32_t counts[KORTYGHAI_SERVER_COUNTS], uint16_t *reported,
+                               uint32_t sums[KORTYGHAI_MAX_LENGTH]);
+
+/*
+ * Counts a relay's sums into the round.
+ *
+ *     sender   the relay's number u, from 1 to U
+ *     said     the round number that the frame has
+ *     block    exactly L symbols
+ *
+ * Refuses, the first that holds: the state's 1, 2, 9, 8, 3, then 8 (sender), 14 (another round), 4, 3, 11.
+ */
+uint64_t kortyghai_server_count(const uint32_t counts[KORTYGHAI_SERVER_COUNTS], uint32_t number, uint16_t *reported,
+                                uint32_t sums[KORTYGHAI_MAX_LENGTH], size_t sender, uint32_t said, const uint32_t *block,
+                                size_t block_len);
+
+/*
+ * The total, once every relay has reported. out: exactly L symbols, which get it. The state stays as it is.
+ *
+ * Refuses, the first that holds: the state's 1, 2, 9, 8, 3, then 12, 4 (out).
+ */
+uint64_t kortyghai_server_give(const uint32_t counts[KORTYGHAI_SERVER_COUNTS], uint32_t number, uint16_t reported,
+                               const uint32_t sums[KORTYGHAI_MAX_LENGTH], uint32_t *out, size_t out_len);
+
+/*
+ * Totals as signed numbers: t where 2 x t is below q, else t - q. Where all readings were inside the cap it is their true
+ * sum.
+ *
+ *     totals   exactly L symbols
+ *     out      exactly L numbers: what is shown is put there
+ *
+ * Refuses, the first that holds: 1, 2, 16, 9, 4, 3.
+ */
+uint64_t kortyghai_show_totals(const uint32_t plan[KORTYGHAI_PLAN_NUMBERS], uint32_t cap, size_t length, const uint32_t *totals,
+                               size_t totals_len, int32_t *out, size_t out_len);
+
+/*
+ * A window over the last totals. Its state is its span, from 1 to 96; how many totals it holds; their sum; and 96 places
+ * with the totals, oldest first, and 0 past them. 17, before all else, where the span is outside 1 to 96, or where no run
+ * of totals leaves such a state.
+ *
+ * Opens a window: held, sum and all 96 places become 0. Refuses: 17 (span).
+ */
+uint64_t kortyghai_window_open(size_t span, size_t *held, int64_t *sum, int32_t totals[KORTYGHAI_MAX_SPAN]);
+
+/* One total more; the oldest goes where the window is full. Refuses: 17. */
+uint64_t kortyghai_window_push(size_t span, size_t *held, int64_t *sum, int32_t totals[KORTYGHAI_MAX_SPAN], int32_t total);
+
+/* The sum of the totals held, which is 0 of none, into out. Refuses: 17. */
+uint64_t kortyghai_window_sum(size_t span, size_t held, int64_t sum, const int32_t totals[KORTYGHAI_MAX_SPAN], int64_t *out);
+
+/* The largest of the totals held, into out. Refuses, the first that holds: 17, 12 (there is none). */
+uint64_t kortyghai_window_largest(size_t span, size_t held, int64_t sum, const int32_t totals[KORTYGHAI_MAX_SPAN], int32_t *out);
+
+/*
+ * A CYCLIC NETWORK. User k, from 1 to K, is linked to the relays k, k - 1 and so on, d of them, wrapping from 1 to K.
+ * counts: K, d, n, R and q. weights: user by user, and for its relays in that order, n coefficients for the reading and one
+ * for the key; K x d x (n + 1) in all. table: K rows of R symbols, which need not sum to zero. A user's key is its row
+ * times the R source symbols.
+ *
+ * The vet: each relay's uploads and the server's K sums, without a coalition. The server may learn all n totals.
+ *
+ * Refuses, the first that holds: 1, 22, 4 (table or weights), 2, 3, 7 (first: 0; second: the first relay that leaks, or 0).
+ */
+uint64_t kortyghai_network_vet(const uint32_t counts[KORTYGHAI_RING_NUMBERS], const uint32_t *table, size_t table_len,
+                               const uint32_t *weights, size_t weights_len);
+
+/*
+ * What user `user` sends to relay `relay`, both from 1: the combination of its reading, exactly n symbols, and its key,
+ * into out.
+ *
+ * Refuses, the first that holds: 1, 22, 4 (weights or reading), 2, 3, 8 (no such user or relay, or they are not linked).
+ */
+uint64_t kortyghai_network_upload(const uint32_t counts[KORTYGHAI_RING_NUMBERS], const uint32_t *weights, size_t weights_len,
+                                  size_t user, size_t relay, const uint32_t *reading, size_t reading_len, uint32_t key,
+                                  uint32_t *out);
+
+/* A relay's sum of its uploads, exactly d symbols, into out. Refuses, the first that holds: 1, 22, 4, 2, 3. */
+uint64_t kortyghai_network_sum(const uint32_t counts[KORTYGHAI_RING_NUMBERS], const uint32_t *uploads, size_t uploads_len,
+                               uint32_t *out);
+
+/*
+ * The totals, at the server, from the relays that have arrived.
+ *
+ *     reported   relay j has bit j - 1
+ *     sums       exactly K numbers; those of relays that have not arrived are not looked at
+ *     out        exactly n symbols: the totals are put there
+ *
+ * Refuses, the first that holds: 1, 22, 4 (table, weights, sums or out), 2, 3, 8 (a bit outside K), 23.
+ */
+uint64_t kortyghai_network_decode(const uint32_t counts[KORTYGHAI_RING_NUMBERS], const uint32_t *table, size_t table_len,
+                                  const uint32_t *weights, size_t weights_len, uint16_t reported, const uint32_t *sums,
+                                  size_t sums_len, uint32_t *out, size_t out_len);
+
+/*
+ * ==== structs, and the same functions over them ====
+ *
+ * The structs are C's own: the functions pass addresses of their members, so that the archive assumes nothing of their
+ * layout. A struct filled with zeros is refused by every function but those that fill it (of a stream, whose address is the
+ * caller's to set, nothing can be said). kortyghai_vet_record takes bytes alone and has no such function.
+ */
+
+struct kortyghai_plan {
+    uint32_t numbers[KORTYGHAI_PLAN_NUMBERS]; /* KORTYGHAI_PLAN_CLUSTERS to KORTYGHAI_PLAN_Q */
+};
+
+/* A plan and its key table, whose first U x V x R symbols count. */
+struct kortyghai_key_table {
+    struct kortyghai_plan plan;
+    uint32_t symbols[KORTYGHAI_MAX_TABLE];
+};
+
+/* A key stream that the caller keeps, and its position. */
+struct kortyghai_stream {
+    const uint32_t *symbols;
+    size_t count;
+    size_t position;
+};
+
+struct kortyghai_stock {
+    size_t pools;
+    size_t reserves[KORTYGHAI_MAX_POOLS];
+    size_t limits[KORTYGHAI_MAX_POOLS];
+    size_t drawn[KORTYGHAI_MAX_POOLS];
+};
+
+struct kortyghai_relay {
+    uint32_t counts[KORTYGHAI_RELAY_COUNTS]; /* KORTYGHAI_ROUND_CLUSTERS to KORTYGHAI_ROUND_CLUSTER */
+    uint32_t number;
+    uint32_t sums[KORTYGHAI_MAX_LENGTH];
+    uint32_t held[KORTYGHAI_MAX_LENGTH];
+    uint16_t reported;
+    uint16_t ahead;
+};
+
+struct kortyghai_server {
+    uint32_t counts[KORTYGHAI_SERVER_COUNTS]; /* KORTYGHAI_ROUND_CLUSTERS to KORTYGHAI_ROUND_LENGTH */
+    uint32_t number;
+    uint32_t sums[KORTYGHAI_MAX_LENGTH];
+    uint16_t reported;
+    uint16_t unused;
+};
+
+struct kortyghai_window {
+    size_t span;
+    size_t held;
+    int64_t sum;
+    int32_t totals[KORTYGHAI_MAX_SPAN];
+};
+
+struct kortyghai_ring {
+    uint32_t numbers[KORTYGHAI_RING_NUMBERS]; /* KORTYGHAI_RING_SIZE to KORTYGHAI_RING_Q */
+};
+
+/* A ring with its key table and its coefficients. */
+struct kortyghai_network {
+    struct kortyghai_ring ring;
+    uint32_t table[KORTYGHAI_MAX_RING_TABLE];
+    uint32_t weights[KORTYGHAI_MAX_WEIGHTS];
+};
+
+KORTYGHAI_STATIC_ASSERT(sizeof(size_t) == 8, "the archive's lengths have 64 bits");
+KORTYGHAI_STATIC_ASSERT(sizeof(void *) == 8, "the archive's addresses have 64 bits");
+KORTYGHAI_STATIC_ASSERT(sizeof(struct kortyghai_plan) == 20, "five numbers");
+KORTYGHAI_STATIC_ASSERT(sizeof(struct kortyghai_key_table) == 20 + 1024, "a plan and 256 symbols");
+KORTYGHAI_STATIC_ASSERT(sizeof(struct kortyghai_stream) == 24, "an address, a length and a position");
+KORTYGHAI_STATIC_ASSERT(sizeof(struct kortyghai_stock) == 8 + 3 * 64, "a count and three rows of eight");
+KORTYGHAI_STATIC_ASSERT(sizeof(struct kortyghai_relay) == 20 + 4 + 2 * 256 + 4, "counts, number, two rows of sums, two rolls");
+KORTYGHAI_STATIC_ASSERT(sizeof(struct kortyghai_server) == 16 + 4 + 256 + 4, "counts, number, a row of sums, a roll");
+KORTYGHAI_STATIC_ASSERT(sizeof(struct kortyghai_window) == 24 + 384, "span, held, sum and 96 places");
+KORTYGHAI_STATIC_ASSERT(sizeof(struct kortyghai_ring) == 20, "five numbers");
+KORTYGHAI_STATIC_ASSERT(sizeof(struct kortyghai_network) == 20 + 512 + 1280, "a ring, its table and its coefficients");
+
+/* A length that a buffer of so many places has room for, and 0 for a longer one, which is refused before any length is looked at. */
+static inline size_t kty_room(uint64_t wanted, size_t most) {
+    return wanted <= most ? (size_t)wanted : 0;
+}
+
+/* U x V, and how many symbols the key table of a plan has; 0 where there are too many for any plan. */
+static inline size_t kty_users(const struct kortyghai_plan *plan) {
+    return kty_room((uint64_t)plan->numbers[KORTYGHAI_PLAN_CLUSTERS] * plan->numbers[KORTYGHAI_PLAN_SIZE], KORTYGHAI_MAX_USERS);
+}
+
+static inline size_t kty_symbols(const struct kortyghai_plan *plan) {
+    return kty_room((uint64_t)kty_users(plan) * plan->numbers[KORTYGHAI_PLAN_RATE], KORTYGHAI_MAX_TABLE);
+}
+
+/* How many bytes the record of a plan has. */
+static inline size_t kty_record_size(const struct kortyghai_plan *plan) {
+    size_t width = plan->numbers[KORTYGHAI_PLAN_Q] < 65536 ? 2 : 4;
+    return 8 + width + width * kty_symbols(plan);
+}
+
+/* How many bytes a save of a round with blocks of so many positions has. */
+static inline size_t kty_save_size(size_t length) {
+    return 20 + 8 * kty_room(length, KORTYGHAI_MAX_LENGTH);
+}
+
+/* ---- the planner ---- */
+
+static inline uint64_t kty_vet(const struct kortyghai_key_table *table) {
+    return kortyghai_vet(table->plan.numbers, table->symbols, kty_symbols(&table->plan));
+}
+
+static inline uint64_t kty_vet_joint(const struct kortyghai_key_table *table, size_t first, size_t second, uint32_t *looked) {
+    return kortyghai_vet_joint(table->plan.numbers, table->symbols, kty_symbols(&table->plan), first, second, looked);
+}
+
+static inline uint64_t kty_count_pairs(const struct kortyghai_plan *plan, uint32_t *out) {
+    return kortyghai_count_pairs(plan->numbers[KORTYGHAI_PLAN_CLUSTERS], plan->numbers[KORTYGHAI_PLAN_SIZE],
+                                 plan->numbers[KORTYGHAI_PLAN_LIMIT], out);
+}
+
+static inline uint64_t kty_rate(const struct kortyghai_plan *plan, size_t *out) {
+    return kortyghai_rate(plan->numbers[KORTYGHAI_PLAN_CLUSTERS], plan->numbers[KORTYGHAI_PLAN_SIZE],
+                          plan->numbers[KORTYGHAI_PLAN_LIMIT], out);
+}
+
+/*
+ * Fill in U, V, T and q of the plan; the call puts R and the table there. Where no rate is to be had, the maker refuses the
+ * counts themselves before it looks at the length.
+ */
+static inline uint64_t kty_make_table(struct kortyghai_key_table *table, uint32_t generator) {
+    size_t rate = 0, symbols;
+    if (kty_rate(&table->plan, &rate) != 0) rate = 0;
+    symbols = kty_room((uint64_t)kty_users(&table->plan) * rate, KORTYGHAI_MAX_TABLE);
+    return kortyghai_make_table(table->plan.numbers, generator, table->symbols, symbols);
+}
+
+static inline uint64_t kty_read_record(struct kortyghai_key_table *table, const uint8_t *bytes, size_t bytes_len) {
+    return kortyghai_read_record(bytes, bytes_len, table->plan.numbers, table->symbols, KORTYGHAI_MAX_TABLE);
+}
+
+/* out_len is kty_record_size(&table->plan). */
+static inline uint64_t kty_write_record(const struct kortyghai_key_table *table, uint8_t *out, size_t out_len) {
+    return kortyghai_write_record(table->plan.numbers, table->symbols, kty_symbols(&table->plan), out, out_len);
+}
+
+/* ---- whoever deals keys ---- */
+
+/* source_len is R x L, keys_len U x V x L. */
+static inline uint64_t kty_derive_keys(const struct kortyghai_key_table *table, size_t length, const uint32_t *source,
+                                       size_t source_len, uint32_t *keys, size_t keys_len) {
+    return kortyghai_derive_keys(table->plan.numbers, table->symbols, kty_symbols(&table->plan), length, source, source_len, keys,
+                                 keys_len);
+}
+
+/* out has room for so many symbols as are drawn. */
+static inline uint64_t kty_draw(struct kortyghai_stream *stream, size_t length, uint32_t *out) {
+    return kortyghai_draw(stream->symbols, stream->count, &stream->position, length, out, kty_room(length, KORTYGHAI_MAX_LENGTH));
+}
+
+/* shares and most have so many numbers as there are pools. */
+static inline uint64_t kty_stock_open(struct kortyghai_stock *stock, size_t pools, const size_t *shares, const size_t *most,
+                                      const uint32_t *stream, size_t stream_len) {
+    size_t count = kty_room(pools, KORTYGHAI_MAX_POOLS);
+    uint64_t answer = kortyghai_stock_open(pools, shares, count, most, count, stream, stream_len, stock->reserves, stock->limits,
+                                           stock->drawn);
+    if (answer == 0) stock->pools = pools;
+    return answer;
+}
+
+static inline uint64_t kty_stock_draw(struct kortyghai_stock *stock, const uint32_t *stream, size_t stream_len, size_t pool,
+                                      size_t length, uint32_t *out) {
+    return kortyghai_stock_draw(stock->pools, stock->reserves, stock->limits, stock->drawn, stream, stream_len, pool, length, out,
+                                kty_room(length, KORTYGHAI_MAX_LENGTH));
+}
+
+/* ---- a user: all blocks have so many positions as length says ---- */
+
+static inline uint64_t kty_upload(const struct kortyghai_plan *plan, size_t length, const uint32_t *readings, const uint32_t *key,
+                                  uint32_t *out) {
+    size_t room = kty_room(length, KORTYGHAI_MAX_LENGTH);
+    return kortyghai_upload(plan->numbers[KORTYGHAI_PLAN_Q], length, readings, room, key, room, out, room);
+}
+
+static inline uint64_t kty_unmask(const struct kortyghai_plan *plan, size_t length, const uint32_t *upload, const uint32_t *key,
+                                  uint32_t *out) {
+    size_t room = kty_room(length, KORTYGHAI_MAX_LENGTH);
+    return kortyghai_unmask(plan->numbers[KORTYGHAI_PLAN_Q], length, upload, room, key, room, out, room);
+}
+
+static inline uint64_t kty_signed_upload(const struct kortyghai_plan *plan, uint32_t cap, size_t length, const int32_t *readings,
+                                         const uint32_t *key, uint32_t *out) {
+    size_t room = kty_room(length, KORTYGHAI_MAX_LENGTH);
+    return kortyghai_signed_upload(plan->numbers, cap, length, readings, room, key, room, out, room);
+}
+
+static inline uint64_t kty_signed_unmask(const struct kortyghai_plan *plan, uint32_t cap, size_t length, const uint32_t *upload,
+                                         const uint32_t *key, int32_t *out) {
+    size_t room = kty_room(length, KORTYGHAI_MAX_LENGTH);
+    return kortyghai_signed_unmask(plan->numbers, cap, length, upload, room, key, room, out, room);
+}
+
+static inline uint64_t kty_show_totals(const struct kortyghai_plan *plan, uint32_t cap, size_t length, const uint32_t *totals,
+                                       int32_t *out) {
+    size_t room = kty_room(length, KORTYGHAI_MAX_LENGTH);
+    return kortyghai_show_totals(plan->numbers, cap, length, totals, room, out, room);
+}
+
+/* ---- a relay ---- */
+
+/* Opens round `number` of the relay of a cluster. A refused call leaves the relay as it was. */
+static inline uint64_t kty_relay_open(struct kortyghai_relay *relay, const struct kortyghai_plan *plan, uint32_t length,
+                                      uint32_t cluster, uint32_t number) {
+    uint64_t answer;
+    uint32_t counts[KORTYGHAI_RELAY_COUNTS];
+    int i;
+    counts[KORTYGHAI_ROUND_CLUSTERS] = plan->numbers[KORTYGHAI_PLAN_CLUSTERS];
+    counts[KORTYGHAI_ROUND_SIZE] = plan->numbers[KORTYGHAI_PLAN_SIZE];
+    counts[KORTYGHAI_ROUND_Q] = plan->numbers[KORTYGHAI_PLAN_Q];
+    counts[KORTYGHAI_ROUND_LENGTH] = length;
+    counts[KORTYGHAI_ROUND_CLUSTER] = cluster;
+    answer = kortyghai_relay_open(counts, &relay->reported, relay->sums, &relay->ahead, relay->held);
+    if (answer != 0) return answer;
+    for (i = 0; i < KORTYGHAI_RELAY_COUNTS; i++) relay->counts[i] = counts[i];
+    relay->number = number;
+    return answer;
+}
+
+static inline uint64_t kty_relay_count(struct kortyghai_relay *relay, size_t sender, uint32_t said, const uint32_t *block,
+                                       size_t block_len) {
+    return kortyghai_relay_count(relay->counts, relay->number, &relay->reported, relay->sums, &relay->ahead, relay->held, sender, said,
+                                 block, block_len);
+}
+
+static inline uint64_t kty_relay_advance(struct kortyghai_relay *relay) {
+    return kortyghai_relay_advance(relay->counts, &relay->number, &relay->reported, relay->sums, &relay->ahead, relay->held);
+}
+
+static inline uint64_t kty_relay_give(const struct kortyghai_relay *relay, uint32_t *out, size_t out_len) {
+    return kortyghai_relay_give(relay->counts, relay->number, relay->reported, relay->sums, relay->ahead, relay->held, out, out_len);
+}
+
+static inline uint64_t kty_relay_save(const struct kortyghai_relay *relay, uint8_t *out, size_t out_len, size_t *used) {
+    return kortyghai_relay_save(relay->counts, relay->number, relay->reported, relay->sums, relay->ahead, relay->held, out, out_len,
+                                used);
+}
+
+static inline uint64_t kty_relay_restore(struct kortyghai_relay *relay, const uint8_t *saved, size_t saved_len, size_t steps) {
+    return kortyghai_relay_restore(saved, saved_len, steps, relay->counts, &relay->number, &relay->reported, relay->sums,
+                                   &relay->ahead, relay->held);
+}
+
+/* ---- the server ---- */
+
+/* Opens round `number`. A refused call leaves the server as it was. */
+static inline uint64_t kty_server_open(struct kortyghai_server *server, const struct kortyghai_plan *plan, uint32_t length,
+                                       uint32_t number) {
+    uint64_t answer;
+    uint32_t counts[KORTYGHAI_SERVER_COUNTS];
+    int i;
+    counts[KORTYGHAI_ROUND_CLUSTERS] = plan->numbers[KORTYGHAI_PLAN_CLUSTERS];
+    counts[KORTYGHAI_ROUND_SIZE] = plan->numbers[KORTYGHAI_PLAN_SIZE];
+    counts[KORTYGHAI_ROUND_Q] = plan->numbers[KORTYGHAI_PLAN_Q];
+    counts[KORTYGHAI_ROUND_LENGTH] = length;
+    answer = kortyghai_server_open(counts, &server->reported, server->sums);
+    if (answer != 0) return answer;
+    for (i = 0; i < KORTYGHAI_SERVER_COUNTS; i++) server->counts[i] = counts[i];
+    server->number = number;
+    return answer;
+}
+
+static inline uint64_t kty_server_count(struct kortyghai_server *server, size_t sender, uint32_t said, const uint32_t *block,
+                                        size_t block_len) {
+    return kortyghai_server_count(server->counts, server->number, &server->reported, server->sums, sender, said, block, block_len);
+}
+
+static inline uint64_t kty_server_give(const struct kortyghai_server *server, uint32_t *out, size_t out_len) {
+    return kortyghai_server_give(server->counts, server->number, server->reported, server->sums, out, out_len);
+}
+
+/* ---- a window ---- */
+
+static inline uint64_t kty_window_open(struct kortyghai_window *window, size_t span) {
+    uint64_t answer = kortyghai_window_open(span, &window->held, &window->sum, window->totals);
+    if (answer == 0) window->span = span;
+    return answer;
+}
+
+static inline uint64_t kty_window_push(struct kortyghai_window *window, int32_t total) {
+    return kortyghai_window_push(window->span, &window->held, &window->sum, window->totals, total);
+}
+
+static inline uint64_t kty_window_sum(const struct kortyghai_window *window, int64_t *out) {
+    return kortyghai_window_sum(window->span, window->held, window->sum, window->totals, out);
+}
+
+static inline uint64_t kty_window_largest(const struct kortyghai_window *window, int32_t *out) {
+    return kortyghai_window_largest(window->span, window->held, window->sum, window->totals, out);
+}
+
+/* ---- a cyclic network ---- */
+
+static inline size_t kty_ring_symbols(const struct kortyghai_ring *ring) {
+    return kty_room((uint64_t)ring->numbers[KORTYGHAI_RING_SIZE] * ring->numbers[KORTYGHAI_RING_RATE], KORTYGHAI_MAX_RING_TABLE);
+}
+
+static inline size_t kty_ring_weights(const struct kortyghai_ring *ring) {
+    size_t links = kty_room((uint64_t)ring->numbers[KORTYGHAI_RING_SIZE] * ring->numbers[KORTYGHAI_RING_LINKS],
+                            KORTYGHAI_MAX_RING * KORTYGHAI_MAX_RING);
+    return kty_room(links * ((uint64_t)ring->numbers[KORTYGHAI_RING_PARTS] + 1), KORTYGHAI_MAX_WEIGHTS);
+}
+
+static inline uint64_t kty_network_vet(const struct kortyghai_network *network) {
+    return kortyghai_network_vet(network->ring.numbers, network->table, kty_ring_symbols(&network->ring), network->weights,
+                                 kty_ring_weights(&network->ring));
+}
+
+/* reading has n symbols. */
+static inline uint64_t kty_network_upload(const struct kortyghai_network *network, size_t user, size_t relay, const uint32_t *reading,
+                                          uint32_t key, uint32_t *out) {
+    size_t parts = kty_room(network->ring.numbers[KORTYGHAI_RING_PARTS], KORTYGHAI_MAX_PARTS);
+    return kortyghai_network_upload(network->ring.numbers, network->weights, kty_ring_weights(&network->ring), user, relay, reading,
+                                    parts, key, out);
+}
+
+/* uploads has d symbols. */
+static inline uint64_t kty_network_sum(const struct kortyghai_ring *ring, const uint32_t *uploads, uint32_t *out) {
+    return kortyghai_network_sum(ring->numbers, uploads, kty_room(ring->numbers[KORTYGHAI_RING_LINKS], KORTYGHAI_MAX_RING), out);
+}
+
+/* sums has K numbers, out n. */
+static inline uint64_t kty_network_decode(const struct kortyghai_network *network, uint16_t reported, const uint32_t *sums,
+                                          uint32_t *out) {
+    const uint32_t *numbers = network->ring.numbers;
+    return kortyghai_network_decode(numbers, network->table, kty_ring_symbols(&network->ring), network->weights,
+                                    kty_ring_weights(&network->ring), reported, sums,
+                                    kty_room(numbers[KORTYGHAI_RING_SIZE], KORTYGHAI_MAX_RING), out,
+                                    kty_room(numbers[KORTYGHAI_RING_PARTS], KORTYGHAI_MAX_PARTS));
+}
 
 #ifdef __cplusplus
 }
