@@ -1,6 +1,5 @@
 // One key stock for several pools. A stock is handed over in parts: how many pools it has, and for each its reserve, its limit and what it has drawn.
 ghost use mathlib.Core.Path.{_≡_};
-ghost use mathlib.Core.List.{[]};
 ghost use Rattle.refusals.specs.Codes.{ifAccepted};
 ghost use Rattle.stocks.specs.Stocks.{openCode, opened, drawOf, stockCode, stockAfter, outAfter};
 ghost use Rattle.boundary.specs.Packed.{packed};
