@@ -1,6 +1,10 @@
-//! The small pool, then a pool of the same shape with the largest prime of 32 bits, and wide records.
+//! Worked cases: the small pool, a pool of the same shape with the largest prime of 32 bits, and what the papers say by example. The programs `hostile`,
+//! `hostile_frames` and `hostile_states` hold every entry to a model.
 
 use crate::*;
+use std::string::ToString;
+use std::vec;
+use std::vec::Vec;
 
 const SMALL: Plan = Plan { clusters: 2, size: 2, limit: 1, rate: 3, q: 5 };
 
@@ -11,106 +15,120 @@ const RECORD: [u8; 34] = [
     0x01, 0x00, 0x02, 0x00, 0x04, 0x00, 0x00, 0x00, 0x22, 0x00, 0x4B, 0x50,
 ];
 
-fn refused<T>(number: u16, first: u16, second: u16) -> Result<T, Refusal> {
-    Err(Refusal { number, first, second })
+fn small() -> KeyTable {
+    KeyTable::new(SMALL, &TABLE).unwrap()
 }
 
-/// The small pool's record with one byte changed.
-fn with(place: usize, byte: u8) -> [u8; 34] {
-    let mut bytes = RECORD;
-    bytes[place] = byte;
+fn vet(plan: Plan, table: &[Symbol]) -> Result<(), Refusal> {
+    KeyTable::new(plan, table)?.vet()
+}
+
+/// Any record with some of its bytes changed.
+fn other(record: &[u8], place: usize, by: &[u8]) -> Vec<u8> {
+    let mut bytes = record.to_vec();
+    bytes[place..place + by.len()].copy_from_slice(by);
     bytes
 }
 
 #[test]
 fn vet_small_pool() {
-    assert_eq!(vet(&SMALL, &TABLE), Ok(()));
-    assert_eq!(vet(&Plan { limit: 2, ..SMALL }, &TABLE), refused(7, 3, 2));
-    assert_eq!(vet(&Plan { q: 9, ..SMALL }, &TABLE), refused(2, 0, 0));
-    assert_eq!(vet(&Plan { q: 3, ..SMALL }, &TABLE), refused(3, 0, 0));
-    assert_eq!(vet(&Plan { clusters: 9, ..SMALL }, &TABLE), refused(1, 0, 0));
-    assert_eq!(vet(&SMALL, &TABLE[..11]), refused(4, 0, 0));
-    assert_eq!(vet(&SMALL, &[]), refused(4, 0, 0));
+    assert_eq!(vet(SMALL, &TABLE), Ok(()));
+    assert_eq!(vet(Plan { limit: 2, ..SMALL }, &TABLE), Err(Refusal::Leaks { coalition: 3, observer: 2 }));
+    assert_eq!(vet(Plan { q: 9, ..SMALL }, &TABLE), Err(Refusal::NotPrime));
+    assert_eq!(vet(Plan { q: 3, ..SMALL }, &TABLE), Err(Refusal::NotASymbol));
+    assert_eq!(vet(Plan { clusters: 9, ..SMALL }, &TABLE), Err(Refusal::OutOfBounds));
+    assert_eq!(vet(SMALL, &TABLE[..11]), Err(Refusal::WrongLength));
+    assert_eq!(vet(SMALL, &[]), Err(Refusal::WrongLength));
 }
 
 #[test]
 fn vet_bare_plans() {
     let bare = Plan { clusters: 2, size: 1, limit: 0, rate: 1, q: 5 };
-    assert_eq!(vet(&bare, &[0, 0]), refused(7, 0, 1));
-    assert_eq!(vet(&bare, &[1, 1]), refused(6, 1, 0));
-    assert_eq!(vet(&Plan { clusters: 1, ..bare }, &[0]), refused(7, 0, 1));
+    assert_eq!(vet(bare, &[0, 0]), Err(Refusal::Leaks { coalition: 0, observer: 1 }));
+    assert_eq!(vet(bare, &[1, 1]), Err(Refusal::NotZeroSum { column: 1 }));
+    assert_eq!(vet(Plan { clusters: 1, ..bare }, &[0]), Err(Refusal::Leaks { coalition: 0, observer: 1 }));
 }
 
 #[test]
 fn counts_of_any_size_are_refused() {
-    let huge = Plan { clusters: usize::MAX, size: usize::MAX, limit: usize::MAX, rate: usize::MAX, q: 5 };
-    assert_eq!(vet(&huge, &TABLE), refused(1, 0, 0));
-    assert_eq!(make_table(usize::MAX, 2, 1, 5, 2), refused(1, 0, 0));
-    assert_eq!(make_table(2, 2, usize::MAX, 5, 2), refused(1, 0, 0));
-    assert_eq!(derive_keys(&huge, &TABLE, usize::MAX, &[]), refused(1, 0, 0));
-    assert_eq!(derive_keys(&SMALL, &TABLE, usize::MAX, &[]), refused(9, 0, 0));
+    let most = Symbol::MAX;
+    let huge = Plan { clusters: most, size: most, limit: most, rate: most, q: 5 };
+    assert_eq!(vet(huge, &TABLE), Err(Refusal::OutOfBounds));
+    assert_eq!(vet(huge, &[0; 2000]), Err(Refusal::OutOfBounds));
+    assert_eq!(Counts { clusters: most, size: 2, limit: 1 }.make_table(5, 2), Err(Refusal::OutOfBounds));
+    assert_eq!(Counts { clusters: 2, size: 2, limit: most }.pairs(), Err(Refusal::OutOfBounds));
+    assert_eq!(small().derive_keys(usize::MAX, &[], &mut []), Err(Refusal::BadBlockLength));
+    assert_eq!(RelayRound::open(&huge, 1, 1, 1), Err(Refusal::OutOfBounds));
+    assert_eq!(ServerRound::open(&huge, 1, 1), Err(Refusal::OutOfBounds));
+}
+
+#[test]
+fn reports_of_the_vet() {
+    assert_eq!(SMALL.counts().pairs(), Ok(15));
+    assert_eq!(small().vet_joint(None), Report { verdict: Ok(()), looked: 15 });
+    // coalitions 0, 1, 2 have three observers each, and 3 leaks to its second
+    let wider = KeyTable::new(Plan { limit: 2, ..SMALL }, &TABLE).unwrap();
+    assert_eq!(wider.vet_joint(None), Report { verdict: Err(Refusal::Leaks { coalition: 3, observer: 2 }), looked: 11 });
+    // "With U 2 every pair leaks."
+    assert_eq!(small().vet_joint(Some((1, 2))), Report { verdict: Err(Refusal::JointLeaks { coalition: 0 }), looked: 0 });
+    for pair in [(0, 0), (1, 1), (2, 1), (0, 1), (1, 3), (usize::MAX, usize::MAX)] {
+        assert_eq!(small().vet_joint(Some(pair)), Report { verdict: Err(Refusal::UnknownNumber), looked: 0 }, "{pair:?}");
+    }
 }
 
 #[test]
 fn vet_records() {
     assert_eq!(vet_record(&RECORD), Ok(()));
-    assert_eq!(vet_record(&with(2, 2)), refused(7, 3, 2));
-    assert_eq!(vet_record(&[]), refused(5, 0, 0));
-    assert_eq!(vet_record(&RECORD[..33]), refused(5, 0, 0));
-    let mut long = vec![0; 65_536 - 34];
+    assert_eq!(vet_record(&other(&RECORD, 2, &[2])), Err(Refusal::Leaks { coalition: 3, observer: 2 }));
+    assert_eq!(vet_record(&[]), Err(Refusal::BadTrailer));
+    assert_eq!(vet_record(&RECORD[..33]), Err(Refusal::BadTrailer));
+    let mut long = vec![0; MAX_BYTES + 1 - 34];
     long.extend(RECORD);
     assert_eq!(vet_record(&long[1..]), Ok(()));
-    assert_eq!(vet_record(&long), refused(4, 0, 0));
+    assert_eq!(vet_record(&long), Err(Refusal::WrongLength));
 }
 
 #[test]
-fn read_records() {
-    assert_eq!(read_record(&RECORD), Ok((SMALL, TABLE.to_vec())));
+fn records_there_and_back() {
+    assert_eq!(KeyTable::read_record(&RECORD), Ok(small()));
+    let mut bytes = [7; 34];
+    assert_eq!(small().write_record(&mut bytes), Ok(()));
+    assert_eq!(bytes, RECORD);
+    assert_eq!(small().write_record(&mut bytes[..33]), Err(Refusal::WrongLength));
+    assert_eq!(bytes, RECORD);
     // the reader doesn't vet
-    assert_eq!(read_record(&with(2, 2)), Ok((Plan { limit: 2, ..SMALL }, TABLE.to_vec())));
-    assert_eq!(read_record(&with(33, 0)), refused(5, 0, 0));
-    assert_eq!(read_record(&with(2, 5)), refused(1, 0, 0));
-    assert_eq!(read_record(&with(3, 2)), refused(4, 0, 0));
-    assert_eq!(read_record(&with(4, 9)), refused(2, 0, 0));
-    assert_eq!(read_record(&with(4, 3)), refused(3, 0, 0));
-}
-
-#[test]
-fn lent_buffers_of_the_reader() {
-    let (mut table, mut counts) = ([7; 257], [7; 5]);
-    // 5, 1, 4, 2, 3: a wrong table is 4, after 5 and 1 and before 2 and 3
-    for symbols in [0, 255, 257] {
-        let mut read = |bytes: &[u8]| read_record_into(bytes, &mut table[..symbols], &mut counts);
-        assert_eq!(read(&RECORD[1..]), refused(5, 0, 0));
-        assert_eq!(read(&with(33, 0)), refused(5, 0, 0));
-        assert_eq!(read(&with(2, 5)), refused(1, 0, 0));
-        assert_eq!(read(&RECORD), refused(4, 0, 0));
-        assert_eq!(read(&with(4, 9)), refused(4, 0, 0));
-        assert_eq!(read(&with(4, 3)), refused(4, 0, 0));
-    }
-    assert_eq!((table, counts), ([7; 257], [7; 5]));
-    assert_eq!(read_record_into(&RECORD, &mut table[..256], &mut counts), Ok(()));
-    assert_eq!(table[..12], TABLE);
-    assert_eq!(table[12..256], [0; 244]);
-    assert_eq!((table[256], counts), (7, [2, 2, 1, 3, 5]));
+    assert_eq!(KeyTable::read_record(&other(&RECORD, 2, &[2])).map(|table| table.plan().limit), Ok(2));
+    let refused = |place, byte| KeyTable::read_record(&other(&RECORD, place, &[byte])).unwrap_err();
+    assert_eq!([refused(33, 0), refused(2, 5), refused(3, 2)], [Refusal::BadTrailer, Refusal::OutOfBounds, Refusal::WrongLength]);
+    assert_eq!([refused(4, 9), refused(4, 3)], [Refusal::NotPrime, Refusal::NotASymbol]);
 }
 
 #[test]
 fn make_tables() {
-    assert_eq!(make_table(2, 2, 1, 5, 2), Ok((SMALL, TABLE.to_vec())));
-    assert_eq!(make_table(2, 2, 2, 5, 2), refused(10, 0, 0));
-    assert_eq!(make_table(2, 2, 1, 9, 2), refused(2, 0, 0));
-    assert_eq!(make_table(2, 2, 1, 5, 5), refused(3, 0, 0));
-    let mut table = [7; 13];
-    assert_eq!(make_table_into(2, 2, 1, 5, 2, &mut table), refused(4, 0, 0));
-    assert_eq!(table, [7; 13]);
-    // every plan that the maker can make has the rate that this crate lends room for
-    for (u, v) in (1..=8).flat_map(|u| (1..=8).map(move |v| (u, v))).filter(|(u, v)| u * v <= 12) {
-        for limit in 0..=u * v {
-            for (q, generator) in [(65_521, 17), (MOST_Q, 65_536)] {
-                match make_table(u, v, limit, q, generator) {
-                    Ok((plan, table)) => assert_eq!(vet(&plan, &table), Ok(())),
-                    Err(refusal) => assert!(limit >= (u - 1) * v && refusal.number == 10, "{u} {v} {limit} {q} {refusal}"),
+    let made = |limit, q, generator| Counts { clusters: 2, size: 2, limit }.make_table(q, generator);
+    assert_eq!(made(1, 5, 2), Ok(small()));
+    assert_eq!(made(2, 5, 2), Err(Refusal::LimitTooLarge));
+    assert_eq!(made(1, 9, 2), Err(Refusal::NotPrime));
+    assert_eq!(made(1, 5, 5), Err(Refusal::NotASymbol));
+    assert_eq!(made(2, 9, 2), Err(Refusal::NotPrime));
+    assert!(matches!(made(1, 5, 1), Err(Refusal::Leaks { .. })));
+}
+
+/// Every plan that the maker can make has the rate that it is said to need, and is accepted.
+#[test]
+fn every_shape_is_made() {
+    for (clusters, size) in (1..=8).flat_map(|u| (1..=8).map(move |v| (u, v))).filter(|(u, v)| u * v <= 12) {
+        for limit in 0..=clusters * size {
+            let counts = Counts { clusters, size, limit };
+            for (q, generator) in [(65_521, 17), (MAX_Q, 65_536)] {
+                match counts.make_table(q, generator) {
+                    Ok(table) => {
+                        assert_eq!(Ok(table.plan().rate as usize), counts.rate(), "{counts:?}");
+                        assert_eq!(table.vet_joint(None), Report { verdict: Ok(()), looked: counts.pairs().unwrap() }, "{counts:?}");
+                    }
+                    Err(refusal) => {
+                        assert!(limit >= (clusters - 1) * size && refusal == Refusal::LimitTooLarge, "{counts:?} {q} {refusal}")
+                    }
                 }
             }
         }
@@ -119,47 +137,92 @@ fn make_tables() {
 
 #[test]
 fn derive_small_keys() {
-    assert_eq!(derive_keys(&SMALL, &TABLE, 1, &[1, 2, 3]), Ok(vec![1, 2, 2, 0]));
-    assert_eq!(derive_keys(&SMALL, &TABLE, 2, &[1, 2, 3, 0, 0, 0]), Ok(vec![1, 0, 2, 0, 2, 0, 0, 0]));
-    assert_eq!(derive_keys(&Plan { limit: 2, ..SMALL }, &TABLE, 1, &[1, 2, 3]), refused(7, 3, 2));
-    assert_eq!(derive_keys(&SMALL, &TABLE, 0, &[]), refused(9, 0, 0));
-    assert_eq!(derive_keys(&SMALL, &TABLE, 65, &[0; 195]), refused(9, 0, 0));
-    assert_eq!(derive_keys(&SMALL, &TABLE, 1, &[1, 2]), refused(4, 0, 0));
-    assert_eq!(derive_keys(&SMALL, &TABLE, 1, &[1, 2, 5]), refused(3, 0, 0));
-    assert_eq!(derive_keys(&SMALL, &TABLE, 64, &[1; 192]).map(|keys| keys.len()), Ok(256));
+    let mut keys = [9; 8];
+    assert_eq!(small().derive_keys(1, &[1, 2, 3], &mut keys[..4]), Ok(()));
+    assert_eq!(keys[..4], [1, 2, 2, 0]);
+    assert_eq!(small().derive_keys(2, &[1, 2, 3, 0, 0, 0], &mut keys), Ok(()));
+    assert_eq!(keys, [1, 0, 2, 0, 2, 0, 0, 0]);
+    let wider = KeyTable::new(Plan { limit: 2, ..SMALL }, &TABLE).unwrap();
+    assert_eq!(wider.derive_keys(0, &[], &mut keys), Err(Refusal::Leaks { coalition: 3, observer: 2 }));
+    assert_eq!(small().derive_keys(0, &[], &mut []), Err(Refusal::BadBlockLength));
+    assert_eq!(small().derive_keys(65, &[0; 195], &mut [0; 260]), Err(Refusal::BadBlockLength));
+    assert_eq!(small().derive_keys(1, &[1, 5], &mut keys), Err(Refusal::WrongLength));
+    assert_eq!(small().derive_keys(2, &[1, 2, 5, 0, 0, 0], &mut keys), Err(Refusal::NotASymbol));
+    assert_eq!(keys, [1, 0, 2, 0, 2, 0, 0, 0]);
+    assert_eq!(small().derive_keys(64, &[1; 192], &mut [0; 256]), Ok(()));
 }
 
-/// Keys, uploads, sums: the readings 3, 4, 0, 2 sum to 4, and so do the uploads.
+/// Readings 3, 4, 0, 2 through the small pool, to the total 4.
 #[test]
-fn uploads_sum_to_the_total() {
-    let keys = derive_keys(&SMALL, &TABLE, 1, &[1, 2, 3]).unwrap();
-    let uploads: Vec<Symbol> = [3, 4, 0, 2].iter().zip(&keys).map(|(reading, key)| (reading + key) % 5).collect();
-    assert_eq!(uploads, [4, 1, 2, 2]);
-    assert_eq!(uploads.iter().sum::<Symbol>() % 5, 4);
+fn the_small_pools_day() {
+    let mut keys = [0; 4];
+    small().derive_keys(1, &[1, 2, 3], &mut keys).unwrap();
+    let mut server = ServerRound::open(&SMALL, 1, 1).unwrap();
+    let mut relay_sums = Vec::new();
+    for cluster in 1..=2 {
+        let mut relay = RelayRound::open(&SMALL, 1, cluster, 1).unwrap();
+        for user in 1..=2 {
+            let index = (cluster as usize - 1) * 2 + user - 1;
+            let mut sent = [0];
+            upload(5, &[[3, 4, 0, 2][index]], &[keys[index]], &mut sent).unwrap();
+            assert_eq!(sent[0], [4, 1, 2, 2][index]);
+            relay.count(user, 1, &sent).unwrap();
+        }
+        let mut sums = [0];
+        relay.give(&mut sums).unwrap();
+        server.count(cluster as usize, 1, &sums).unwrap();
+        relay_sums.push(sums[0]);
+    }
+    let mut total = [0];
+    server.give(&mut total).unwrap();
+    assert_eq!((&relay_sums[..], total), (&[0, 4][..], [4]));
 }
 
 #[test]
 fn blocks_there_and_back() {
-    let (readings, key) = ([3, 4, 0, 2], [1, 2, 2, 0]);
-    assert_eq!(upload(5, &readings, &key), Ok(vec![4, 1, 2, 2]));
-    assert_eq!(unmask(5, &[4, 1, 2, 2], &key), Ok(readings.to_vec()));
-    assert_eq!(upload(9, &readings, &key), refused(2, 0, 0));
-    assert_eq!(upload(5, &[], &[]), refused(9, 0, 0));
-    assert_eq!(upload(5, &readings, &key[..3]), refused(4, 0, 0));
-    assert_eq!(upload(5, &readings, &[1, 2, 2, 5]), refused(3, 0, 0));
-    let mut out = [7; 4];
-    assert_eq!(unmask_into(5, 4, &readings, &[1, 2, 2, 5], &mut out), refused(3, 0, 0));
+    let (readings, key, mut out) = ([3, 4, 0, 2], [1, 2, 2, 0], [7; 4]);
+    assert_eq!(upload(9, &readings, &key, &mut out), Err(Refusal::NotPrime));
+    assert_eq!(upload(5, &[], &[], &mut []), Err(Refusal::BadBlockLength));
+    assert_eq!(upload(5, &readings, &key[..3], &mut out), Err(Refusal::WrongLength));
+    assert_eq!(upload(5, &readings, &key, &mut out[..3]), Err(Refusal::WrongLength));
+    assert_eq!(upload(5, &readings, &[1, 2, 2, 5], &mut out), Err(Refusal::NotASymbol));
     assert_eq!(out, [7; 4]);
+    assert_eq!((upload(5, &readings, &key, &mut out), out), (Ok(()), [4, 1, 2, 2]));
+    let sent = out;
+    assert_eq!((unmask(5, &sent, &key, &mut out), out), (Ok(()), readings));
+}
+
+/// "With q 65,521 and 16 meters m may be 2,047 and not 2,048."
+#[test]
+fn caps_at_their_ends() {
+    let plan = Plan { clusters: 8, size: 2, limit: 1, rate: 8, q: 65_521 };
+    let (key, mut out) = ([0, 65_520], [9; 2]);
+    assert_eq!(plan.signed_upload(2_048, &[0, 0], &key, &mut out), Err(Refusal::BadCap));
+    assert_eq!(plan.signed_upload(0, &[0, 0], &key, &mut out), Err(Refusal::BadCap));
+    assert_eq!(plan.signed_upload(2_047, &[2_048, 0], &[65_521, 0], &mut out), Err(Refusal::OutsideCap));
+    assert_eq!(plan.signed_upload(2_047, &[0, -2_048], &key, &mut out), Err(Refusal::OutsideCap));
+    assert_eq!(plan.signed_upload(2_047, &[i32::MIN, 0], &key, &mut out), Err(Refusal::OutsideCap));
+    assert_eq!(plan.signed_upload(2_047, &[0, 0], &[0, 65_521], &mut out), Err(Refusal::NotASymbol));
+    assert_eq!(out, [9; 2]);
+    assert_eq!(plan.signed_upload(2_047, &[-2_047, 2_047], &key, &mut out), Ok(()));
+    assert_eq!(out, [65_521 - 2_047, 2_046]);
+    let (sent, mut back) = (out, [9; 2]);
+    assert_eq!((plan.signed_unmask(2_047, &sent, &key, &mut back), back), (Ok(()), [-2_047, 2_047]));
+    // all sixteen at an end of the cap; and around the middle of q
+    assert_eq!((plan.show_totals(2_047, &[32_752, 65_521 - 32_752], &mut back), back), (Ok(()), [32_752, -32_752]));
+    assert_eq!((plan.show_totals(2_047, &[32_760, 32_761], &mut back), back), (Ok(()), [32_760, -32_760]));
+    assert_eq!(plan.show_totals(2_047, &[0, 65_521], &mut back), Err(Refusal::NotASymbol));
+    assert_eq!(back, [32_760, -32_760]);
 }
 
 /// Cluster 1 of the small pool in round 9, blocks of two symbols: nobody has reported.
 fn opened() -> RelayRound {
-    RelayRound { clusters: 2, size: 2, q: 5, length: 2, cluster: 1, number: 9, reported: 0, sums: [0; 64], ahead: 0, held: [0; 64] }
+    RelayRound::open(&SMALL, 2, 1, 9).unwrap()
 }
 
 /// The first places of a row of sums, and 0 past them.
-fn row(first: &[Symbol]) -> [Symbol; 64] {
-    let mut row = [0; 64];
+fn row(first: &[Symbol]) -> [Symbol; MAX_LENGTH] {
+    let mut row = [0; MAX_LENGTH];
     row[..first.len()].copy_from_slice(first);
     row
 }
@@ -167,120 +230,173 @@ fn row(first: &[Symbol]) -> [Symbol; 64] {
 #[test]
 fn frames_into_a_round() {
     let mut round = opened();
-    assert_eq!(count_frame(&mut round, 2, 9, &[4, 1]), Ok(()));
+    assert_eq!(round.count(2, 9, &[4, 1]), Ok(()));
     let before = round.clone();
-    assert_eq!(count_frame(&mut round, 2, 9, &[1, 1]), refused(11, 0, 0));
-    assert_eq!(count_frame(&mut round, 2, 9, &[1, 5]), refused(3, 0, 0));
-    assert_eq!(count_frame(&mut round, 2, 9, &[5]), refused(4, 0, 0));
-    assert_eq!(count_frame(&mut round, 3, 8, &[5]), refused(8, 0, 0));
+    assert_eq!(round.count(2, 9, &[1, 1]), Err(Refusal::AlreadyReported));
+    assert_eq!(round.count(2, 9, &[1, 5]), Err(Refusal::NotASymbol));
+    assert_eq!(round.count(2, 9, &[5]), Err(Refusal::WrongLength));
+    assert_eq!(round.count(3, 8, &[5]), Err(Refusal::UnknownNumber));
     // a late user is called late, whatever its block
-    assert_eq!(count_frame(&mut round, 2, 8, &[1, 1]), refused(14, 0, 0));
-    assert_eq!(count_frame(&mut round, 2, 8, &[1, 5]), refused(14, 0, 0));
-    assert_eq!(count_frame(&mut round, 2, 8, &[5]), refused(14, 0, 0));
+    assert_eq!(round.count(2, 8, &[5]), Err(Refusal::OtherRound));
+    assert_eq!((round.give(&mut [0; 2]), round.advance()), (Err(Refusal::NotFull), Err(Refusal::NotFull)));
     assert_eq!(round, before);
-    assert_eq!(give_sums(&round), refused(12, 0, 0));
-    assert_eq!(count_frame(&mut round, 1, 9, &[3, 3]), Ok(()));
+    assert_eq!(round.count(1, 9, &[3, 3]), Ok(()));
     assert_eq!((round.reported, &round.sums[..3]), (3, &[2, 4, 0][..]));
 }
 
 #[test]
 fn frames_for_the_next_round() {
     let mut round = opened();
-    assert_eq!(count_frame(&mut round, 2, 10, &[4, 1]), Ok(()));
+    assert_eq!(round.count(2, 10, &[4, 1]), Ok(()));
     assert_eq!(round, RelayRound { ahead: 2, held: row(&[4, 1]), ..opened() });
-    let before = round.clone();
-    assert_eq!(count_frame(&mut round, 2, 10, &[1, 1]), refused(11, 0, 0));
-    assert_eq!(count_frame(&mut round, 1, 10, &[1, 5]), refused(3, 0, 0));
-    assert_eq!(count_frame(&mut round, 1, 10, &[1]), refused(4, 0, 0));
-    assert_eq!(count_frame(&mut round, 3, 10, &[1, 1]), refused(8, 0, 0));
-    assert_eq!(count_frame(&mut round, 1, 11, &[1, 1]), refused(14, 0, 0));
-    assert_eq!(round, before);
+    assert_eq!(round.count(2, 10, &[1, 1]), Err(Refusal::AlreadyReported));
+    assert_eq!(round.count(1, 11, &[1, 1]), Err(Refusal::OtherRound));
     // who is ahead may still report here
-    assert_eq!(count_frame(&mut round, 2, 9, &[1, 1]), Ok(()));
-    assert_eq!(count_frame(&mut round, 1, 10, &[2, 2]), Ok(()));
+    assert_eq!((round.count(2, 9, &[1, 1]), round.count(1, 10, &[2, 2])), (Ok(()), Ok(())));
     // and the next round's being full doesn't make this one so
-    assert_eq!((give_sums(&round), advance(&mut round)), (refused(12, 0, 0), refused(12, 0, 0)));
-    assert_eq!(round, RelayRound { reported: 2, sums: row(&[1, 1]), ahead: 3, held: row(&[1, 3]), ..opened() });
-}
-
-#[test]
-fn moving_on() {
-    let full = RelayRound { reported: 3, sums: row(&[2, 4]), ahead: 2, held: row(&[4, 1]), ..opened() };
-    let mut round = full.clone();
-    assert_eq!(advance(&mut round), Ok(()));
-    assert_eq!(round, RelayRound { number: 10, reported: 2, sums: row(&[4, 1]), ..opened() });
-    assert_eq!(count_frame(&mut round, 1, 9, &[1, 1]), refused(14, 0, 0));
-    assert_eq!(count_frame(&mut round, 2, 11, &[3, 3]), Ok(()));
-    assert_eq!(count_frame(&mut round, 1, 10, &[3, 3]), Ok(()));
-    assert_eq!(give_sums(&round), Ok(vec![2, 4]));
-    // a round that is handed in damaged stays as it is
-    let damages = [
-        (1, RelayRound { clusters: 9, ..full.clone() }),
-        (2, RelayRound { q: 9, ..full.clone() }),
-        (9, RelayRound { length: 65, ..full.clone() }),
-        (8, RelayRound { cluster: 3, ..full.clone() }),
-        (8, RelayRound { reported: 7, ..full.clone() }),
-        (8, RelayRound { ahead: 4, sums: [5; 64], ..full.clone() }),
-        (3, RelayRound { sums: row(&[2, 5]), ..full.clone() }),
-        (3, RelayRound { held: row(&[2, 5]), ..full.clone() }),
-        (3, RelayRound { held: row(&[2, 4, 1]), ..full.clone() }),
-    ];
-    for (number, damaged) in damages {
-        let mut round = damaged.clone();
-        assert_eq!(advance(&mut round), refused(number, 0, 0));
-        assert_eq!(count_frame(&mut round, 1, 10, &[0, 0]), refused(number, 0, 0));
-        assert_eq!(give_sums(&round), refused(number, 0, 0));
-        assert_eq!(round, damaged);
-    }
+    assert_eq!(round.advance(), Err(Refusal::NotFull));
+    assert_eq!(round.count(1, 9, &[1, 1]), Ok(()));
+    assert_eq!(round.advance(), Ok(()));
+    assert_eq!(round, RelayRound { number: 10, reported: 3, sums: row(&[1, 3]), ..opened() });
 }
 
 #[test]
 fn no_round_after_the_last() {
-    let mut round = RelayRound { number: u32::MAX - 1, reported: 3, ..opened() };
-    assert_eq!(count_frame(&mut round, 1, u32::MAX, &[1, 1]), Ok(()));
-    assert_eq!(count_frame(&mut round, 1, 0, &[1, 1]), refused(14, 0, 0));
-    assert_eq!(advance(&mut round), Ok(()));
-    let last = RelayRound { number: u32::MAX, reported: 1, sums: row(&[1, 1]), ..opened() };
-    assert_eq!(round, last);
-    assert_eq!(count_frame(&mut round, 2, 0, &[1, 1]), refused(14, 0, 0));
-    assert_eq!(count_frame(&mut round, 2, u32::MAX - 1, &[1, 1]), refused(14, 0, 0));
+    let mut round = RelayRound { number: u32::MAX, reported: 1, sums: row(&[1, 1]), ..opened() };
+    assert_eq!(round.count(2, 0, &[1, 1]), Err(Refusal::OtherRound));
     // 14 before 12, and where everyone has reported
-    assert_eq!(advance(&mut round), refused(14, 0, 0));
-    assert_eq!(round, last);
-    assert_eq!(count_frame(&mut round, 2, u32::MAX, &[1, 1]), Ok(()));
-    assert_eq!((advance(&mut round), give_sums(&round)), (refused(14, 0, 0), Ok(vec![2, 2])));
+    assert_eq!(round.advance(), Err(Refusal::OtherRound));
+    assert_eq!(round.count(2, u32::MAX, &[1, 1]), Ok(()));
+    assert_eq!(round.advance(), Err(Refusal::OtherRound));
 }
 
 #[test]
-fn sums_of_a_round() {
-    let round = RelayRound { reported: 3, sums: row(&[2, 4]), ..opened() };
-    assert_eq!(give_sums(&round), Ok(vec![2, 4]));
-    let mut out = [9; 3];
-    assert_eq!(give_sums_into(&round, &mut out), refused(4, 0, 0));
-    assert_eq!(give_sums_into(&RelayRound { reported: 1, ..round.clone() }, &mut out), refused(12, 0, 0));
-    assert_eq!(give_sums(&RelayRound { reported: 7, ..round.clone() }), refused(8, 0, 0));
-    assert_eq!(give_sums(&RelayRound { length: 1, ..round.clone() }), refused(3, 0, 0));
-    assert_eq!(give_sums(&RelayRound { length: 65, ..round.clone() }), refused(9, 0, 0));
-    assert_eq!(give_sums(&RelayRound { q: 9, ..round.clone() }), refused(2, 0, 0));
-    assert_eq!(give_sums(&RelayRound { size: 9, ..round.clone() }), refused(1, 0, 0));
-    assert_eq!(out, [9; 3]);
+fn damaged_rounds_stay_as_they_are() {
+    let full = RelayRound { reported: 3, sums: row(&[2, 4]), ahead: 2, held: row(&[4, 1]), ..opened() };
+    let damages = [
+        (Refusal::OutOfBounds, RelayRound { clusters: 9, ..full.clone() }),
+        (Refusal::NotPrime, RelayRound { q: 9, ..full.clone() }),
+        (Refusal::BadBlockLength, RelayRound { length: 65, ..full.clone() }),
+        (Refusal::UnknownNumber, RelayRound { cluster: 3, ..full.clone() }),
+        (Refusal::UnknownNumber, RelayRound { reported: 7, ..full.clone() }),
+        (Refusal::UnknownNumber, RelayRound { ahead: 4, sums: [5; 64], ..full.clone() }),
+        (Refusal::NotASymbol, RelayRound { sums: row(&[2, 5]), ..full.clone() }),
+        (Refusal::NotASymbol, RelayRound { held: row(&[2, 4, 1]), ..full.clone() }),
+    ];
+    for (refusal, damaged) in damages {
+        let (mut round, mut bytes, mut used) = (damaged.clone(), [7; MAX_SAVE], 0);
+        assert_eq!(round.advance(), Err(refusal));
+        assert_eq!(round.count(1, 10, &[0, 0]), Err(refusal));
+        assert_eq!(round.give(&mut [0; 2]), Err(refusal));
+        assert_eq!(round.save(&mut bytes, &mut used), Err(refusal));
+        assert_eq!((round, bytes, used), (damaged, [7; MAX_SAVE], 0));
+    }
 }
 
 #[test]
-fn refusals_in_words() {
-    let text = |number, first, second| Refusal { number, first, second }.to_string();
-    assert_eq!(text(7, 3, 2), "7: the plan leaks (coalition 3 to relay 2)");
-    assert_eq!(text(7, 3, 0), "7: the plan leaks (coalition 3 to the server)");
-    assert_eq!(text(6, 1, 0), "6: the rows don't sum to zero (column 1)");
-    assert_eq!(text(2, 0, 0), "2: q is no prime, or too small for a wide record");
+fn saves_in_bytes() {
+    let round = RelayRound { number: 0x0102_0304, reported: 1, sums: row(&[2, 4]), ahead: 2, held: row(&[4, 1]), ..opened() };
+    #[rustfmt::skip]
+    let save = [
+        2, 2, 1, 2, 5, 0, 0, 0, 4, 3, 2, 1, 1, 0, 2, 0,
+        2, 0, 0, 0, 4, 0, 0, 0, 4, 0, 0, 0, 1, 0, 0, 0,
+        36, 0, 0x4B, 0x52,
+    ];
+    assert_eq!((round.save_size(), opened().save_size()), (36, 36));
+    let (mut bytes, mut used) = ([7; 80], 3);
+    assert_eq!(round.save(&mut bytes, &mut used), Ok(()));
+    assert_eq!((used, &bytes[..3], &bytes[3..39], &bytes[39..]), (39, &[7; 3][..], &save[..], &[7; 41][..]));
+    assert_eq!(opened().save(&mut bytes, &mut used), Ok(()));
+    // five bytes are free
+    assert_eq!((round.save(&mut bytes, &mut used), used), (Err(Refusal::WrongLength), 75));
+    assert_eq!(RelayRound::restore(&bytes[..used], 0), Ok(opened()));
+    assert_eq!(RelayRound::restore(&bytes[..used], 1), Ok(round));
+    assert_eq!(RelayRound::restore(&bytes[..used], 2), Err(Refusal::BadTrailer));
+    assert_eq!(RelayRound::restore(&bytes[..used], usize::MAX), Err(Refusal::BadTrailer));
+    assert_eq!(RelayRound::restore(&bytes, 0), Err(Refusal::BadTrailer));
+    assert_eq!(RelayRound::restore(&[], 0), Err(Refusal::BadTrailer));
 }
 
-/// The largest prime of 32 bits. Modulo it 65,536 times 65,536 is 5, so the powers in the table below are easily followed.
-const MOST_Q: Symbol = 4_294_967_291;
+#[test]
+fn the_servers_round() {
+    let mut round = ServerRound::open(&SMALL, 1, 9).unwrap();
+    assert_eq!((round.count(2, 9, &[4]), round.count(2, 9, &[4])), (Ok(()), Err(Refusal::AlreadyReported)));
+    // the server hears no next round
+    assert_eq!(round.count(1, 10, &[4]), Err(Refusal::OtherRound));
+    assert_eq!(round.count(3, 9, &[4]), Err(Refusal::UnknownNumber));
+    assert_eq!(round.give(&mut [0]), Err(Refusal::NotFull));
+    assert_eq!(round.count(1, 9, &[3]), Ok(()));
+    let mut total = [9];
+    assert_eq!((round.give(&mut total), total), (Ok(()), [2]));
+    assert_eq!(round.give(&mut [0; 2]), Err(Refusal::WrongLength));
+}
 
-const WIDE: Plan = Plan { q: MOST_Q, ..SMALL };
+#[test]
+fn streams_end() {
+    let mut stream = KeyStream::new(&[1, 2, 3]);
+    let mut out = [0; 2];
+    assert_eq!((stream.draw(&mut out), out, stream.left()), (Ok(()), [1, 2], 1));
+    assert_eq!((stream.draw(&mut out), out, stream.position()), (Err(Refusal::StreamTooShort), [1, 2], 2));
+    assert_eq!((stream.draw(&mut out[..1]), out), (Ok(()), [3, 2]));
+    assert_eq!((stream.draw(&mut []), stream.draw(&mut [0; 65])), (Err(Refusal::BadBlockLength), Err(Refusal::BadBlockLength)));
+    let mut beyond = KeyStream::at(&[1, 2, 3], usize::MAX);
+    assert_eq!((beyond.draw(&mut out), beyond.left()), (Err(Refusal::StreamTooShort), 0));
+}
 
-const WIDE_TABLE: [Symbol; 12] = [1, 0, 0, 1, 65_536, 5, 1, 5, 25, MOST_Q - 3, MOST_Q - 65_541, MOST_Q - 30];
+#[test]
+fn stocks_of_several_pools() {
+    let stream = [1, 2, 3, 4, 5, 6];
+    assert_eq!(Stock::open(&[], &[], &stream), Err(Refusal::OutOfBounds));
+    assert_eq!(Stock::open(&[0; 9], &[0; 9], &stream), Err(Refusal::OutOfBounds));
+    assert_eq!(Stock::open(&[1], &[1, 2], &stream), Err(Refusal::WrongLength));
+    assert_eq!(Stock::open(&[2], &[1], &stream), Err(Refusal::BadStock));
+    assert_eq!(Stock::open(&[3, 4], &[3, 4], &stream), Err(Refusal::BadStock));
+    let mut stock = Stock::open(&[2, 3], &[3, 9], &stream).unwrap();
+    assert_eq!(stock.draw(&stream, 3, &mut [0]), Err(Refusal::UnknownNumber));
+    assert_eq!(stock.draw(&stream, 1, &mut [0; 4]), Err(Refusal::PastLimit));
+    assert_eq!(stock.draw(&stream, 2, &mut [0; 5]), Err(Refusal::StreamTooShort));
+    assert_eq!(stock.draw(&stream[..4], 2, &mut [0]), Err(Refusal::BadStock));
+    let mut out = [0; 4];
+    assert_eq!((stock.draw(&stream, 2, &mut out), out), (Ok(()), [1, 2, 3, 4]));
+    assert_eq!((stock.draw(&stream, 1, &mut out[..2]), out, stock.position()), (Ok(()), [5, 6, 3, 4], 6));
+}
+
+#[test]
+fn windows_hold_the_last() {
+    assert_eq!((Window::open(0), Window::open(97)), (Err(Refusal::BadWindow), Err(Refusal::BadWindow)));
+    let mut window = Window::open(MAX_SPAN).unwrap();
+    for _ in 0..100 {
+        window.push(i32::MIN).unwrap();
+    }
+    assert_eq!((window.sum(), window.largest()), (Ok(96 * i32::MIN as i64), Ok(i32::MIN)));
+    let damaged = Window { sum: 0, ..window.clone() };
+    let mut after = damaged.clone();
+    assert_eq!((after.push(1), after.sum(), after.largest()), (Err(Refusal::BadWindow), Err(Refusal::BadWindow), Err(Refusal::BadWindow)));
+    assert_eq!(after, damaged);
+}
+
+#[test]
+fn refusals_and_their_numbers() {
+    // 1 to 23, each its own, and back
+    for number in 1..=23 {
+        let refusal = Refusal::unpack(number).unwrap_err();
+        assert_eq!((refusal.number() as u64, refusal.details()), (number, (0, 0)));
+        assert!(!matches!(refusal, Refusal::Other { .. }) && !refusal.meaning().is_empty(), "{number}");
+        assert!(refusal.to_string().starts_with(&std::format!("{number}: ")));
+    }
+    let told = |refusal: Refusal| refusal.to_string();
+    assert_eq!(told(Refusal::Leaks { coalition: 4, observer: 0 }), "7: the plan leaks (coalition 4, the users of index 2, to the server)");
+    assert_eq!(told(Refusal::Leaks { coalition: 0, observer: 1 }), "7: the plan leaks (coalition 0, no users, to relay 1)");
+    assert_eq!(told(Refusal::NotZeroSum { column: 3 }), "6: the key table's rows don't sum to zero (column 3)");
+    assert_eq!(Refusal::unpack(77 + (5 << 16)), Err(Refusal::Other { number: 77, first: 5, second: 0 }));
+    assert_eq!(Refusal::unpack(6 + (3 << 16)), Err(Refusal::NotZeroSum { column: 3 }));
+    assert_eq!(Refusal::unpack(19 + (9 << 16)), Err(Refusal::JointLeaks { coalition: 9 }));
+}
+
+/// A plan of the same shape with the largest prime of 32 bits. Modulo it 65,536 times 65,536 is 5, so the powers in the table are easily followed.
+const WIDE: Plan = Plan { q: MAX_Q, ..SMALL };
+
+const WIDE_TABLE: [Symbol; 12] = [1, 0, 0, 1, 65_536, 5, 1, 5, 25, MAX_Q - 3, MAX_Q - 65_541, MAX_Q - 30];
 
 /// The record of that plan: its counts and q, four rows, the distance and the marks.
 #[rustfmt::skip]
@@ -293,108 +409,105 @@ const WIDE_RECORD: [u8; 60] = [
     0x3C, 0x00, 0x4B, 0x51,
 ];
 
-/// Two clusters of one user, q 65,537, the least of a wide record, and the rows 1 and 65,536.
-const LEAST_RECORD: [u8; 20] = [2, 1, 0, 1, 1, 0, 1, 0, 1, 0, 0, 0, 0, 0, 1, 0, 20, 0, 0x4B, 0x51];
+#[test]
+fn wide_tables_and_records() {
+    let wide = WIDE.counts().make_table(MAX_Q, 65_536).unwrap();
+    assert_eq!((wide.plan(), wide.symbols()), (&WIDE, &WIDE_TABLE[..]));
+    let mut bytes = [7; 60];
+    assert_eq!((wide.write_record(&mut bytes), bytes), (Ok(()), WIDE_RECORD));
+    assert_eq!(KeyTable::read_record(&WIDE_RECORD), Ok(wide));
+    assert_eq!((vet_record(&WIDE_RECORD), wide.vet()), (Ok(()), Ok(())));
+    // no prime, and one whose record is an old one
+    for q in [u32::MAX, 65_541, 65_521] {
+        assert_eq!(KeyTable::read_record(&other(&WIDE_RECORD, 4, &q.to_le_bytes())), Err(Refusal::NotPrime));
+    }
+    // both marks over the same bytes
+    assert_eq!(KeyTable::read_record(&other(&WIDE_RECORD, 59, &[0x50])), Err(Refusal::WrongLength));
+    assert_eq!(KeyTable::read_record(&other(&RECORD, 33, &[0x51])), Err(Refusal::WrongLength));
+}
 
 /// A test for primes is made before the length of a block: 9 where q is one, 2 where it is none.
 #[test]
 fn primes_of_32_bits() {
-    for q in [2, 3, 5, 65_521, 65_537, 1_048_573, 2_147_483_647, 4_294_967_279, MOST_Q] {
-        assert_eq!(upload(q, &[], &[]), refused(9, 0, 0), "{q}");
+    for q in [2, 3, 5, 65_521, 65_537, 1_048_573, 2_147_483_647, 4_294_967_279, MAX_Q] {
+        assert_eq!(upload(q, &[], &[], &mut []), Err(Refusal::BadBlockLength), "{q}");
     }
     // 65,541 has the low 16 bits of 5; then the square of 65,521, and two that pass Fermat's test with 2: 3,511 squared and another
     for q in [0, 1, 4, 65_536, 65_541, 4_293_001_441, 12_327_121, 3_215_031_751, 4_294_967_293, 4_294_967_295] {
-        assert_eq!(upload(q, &[], &[]), refused(2, 0, 0), "{q}");
+        assert_eq!(upload(q, &[], &[], &mut []), Err(Refusal::NotPrime), "{q}");
     }
 }
 
+/// The largest of everything: the lengths that have names are those of the archive.
 #[test]
-fn wide_tables() {
-    assert_eq!(make_table(2, 2, 1, MOST_Q, 65_536), Ok((WIDE, WIDE_TABLE.to_vec())));
-    assert_eq!(make_table(2, 2, 1, MOST_Q, MOST_Q), refused(3, 0, 0));
-    assert_eq!(make_table(2, 2, 1, u32::MAX, 65_536), refused(2, 0, 0));
-    assert_eq!(vet(&WIDE, &WIDE_TABLE), Ok(()));
-    assert_eq!(vet(&Plan { limit: 2, ..WIDE }, &WIDE_TABLE), refused(7, 3, 2));
-    assert_eq!(vet(&Plan { q: 65_537, ..WIDE }, &WIDE_TABLE), refused(3, 0, 0));
-    // the low 16 bits of a symbol don't decide whether it is below q
-    let mut table = TABLE;
-    table[4] += 65_536;
-    assert_eq!(vet(&SMALL, &table), refused(3, 0, 0));
-    let mut table = WIDE_TABLE;
-    table[11] += 1;
-    assert_eq!(vet(&WIDE, &table), refused(6, 3, 0));
-}
-
-/// A relay's sum of two uploads.
-fn relay_sum(cluster: usize, uploads: &[Symbol]) -> Symbol {
-    let mut round = RelayRound { q: MOST_Q, length: 1, cluster, ..opened() };
-    assert_eq!(count_frame(&mut round, 1, 9, &uploads[..1]), Ok(()));
-    assert_eq!(count_frame(&mut round, 2, 9, &uploads[1..]), Ok(()));
-    give_sums(&round).unwrap()[0]
+fn bounds_have_names() {
+    let (u, v) = (MAX_CLUSTERS as u32, MAX_SIZE as u32);
+    assert!(Counts { clusters: u, size: 2, limit: 0 }.pairs().is_ok() && Counts { clusters: 2, size: v, limit: 0 }.pairs().is_ok());
+    assert!(
+        Counts { clusters: u + 1, size: 1, limit: 0 }.pairs().is_err() && Counts { clusters: 1, size: v + 1, limit: 0 }.pairs().is_err()
+    );
+    let largest = Plan { clusters: 4, size: 4, limit: 0, rate: MAX_RATE as u32, q: MAX_Q };
+    assert_eq!((largest.users(), largest.symbols(), largest.record_size()), (MAX_USERS, MAX_TABLE, MAX_RECORD));
+    assert!(KeyTable::new(largest, &[0; MAX_TABLE]).is_ok());
+    assert_eq!(KeyTable::new(Plan { rate: 17, ..largest }, &[0; 272]), Err(Refusal::OutOfBounds));
+    let round = RelayRound::open(&largest, MAX_LENGTH as u32, 4, 1).unwrap();
+    assert_eq!(round.save_size(), MAX_SAVE);
+    assert_eq!(RelayRound::open(&largest, MAX_LENGTH as u32 + 1, 4, 1), Err(Refusal::BadBlockLength));
+    assert!(Window::open(MAX_SPAN).is_ok() && Window::open(MAX_SPAN + 1).is_err());
+    assert!(
+        Stock::open(&[0; MAX_POOLS], &[0; MAX_POOLS], &[]).is_ok() && Stock::open(&[0; MAX_POOLS + 1], &[0; MAX_POOLS + 1], &[]).is_err()
+    );
+    let ring = |size: usize, parts: usize| Ring { size: size as u32, links: 1, parts: parts as u32, rate: 1, q: 5 };
+    let summed = |ring| Network { ring, table: &[], weights: &[] }.sum(&[3]);
+    assert_eq!(summed(ring(MAX_RING, MAX_PARTS)), Ok(3));
+    assert_eq!(summed(ring(MAX_RING + 1, MAX_PARTS)), Err(Refusal::OutOfBounds));
+    assert_eq!(summed(ring(MAX_RING, MAX_PARTS + 1)), Err(Refusal::BadPattern));
 }
 
 /// From a source key to the total, all worked out by hand: 4,000,000,000 is q − 294,967,291, and q − 1 is the opposite of 1.
 #[test]
 fn wide_uploads_sum_to_the_total() {
-    let keys = derive_keys(&WIDE, &WIDE_TABLE, 1, &[MOST_Q - 1, 65_536, 4_000_000_000]).unwrap();
-    assert_eq!(keys, [MOST_Q - 1, 2_820_130_840, 1_216_079_986, 258_756_466]);
-    let readings = [4_000_000_000, 3_000_000_000, 65_536, MOST_Q - 1];
-    let uploads = upload(MOST_Q, &readings, &keys).unwrap();
+    let wide = KeyTable::new(WIDE, &WIDE_TABLE).unwrap();
+    let mut keys = [0; 4];
+    wide.derive_keys(1, &[MAX_Q - 1, 65_536, 4_000_000_000], &mut keys).unwrap();
+    assert_eq!(keys, [MAX_Q - 1, 2_820_130_840, 1_216_079_986, 258_756_466]);
+    let (readings, mut uploads, mut back) = ([4_000_000_000, 3_000_000_000, 65_536, MAX_Q - 1], [0; 4], [0; 4]);
+    upload(MAX_Q, &readings, &keys, &mut uploads).unwrap();
     assert_eq!(uploads, [3_999_999_999, 1_525_163_549, 1_216_145_522, 258_756_465]);
-    assert_eq!(unmask(MOST_Q, &uploads, &keys), Ok(readings.to_vec()));
-    let (first, second) = (relay_sum(1, &uploads[..2]), relay_sum(2, &uploads[2..]));
-    assert_eq!((first, second), (1_230_196_257, 1_474_901_987));
-    let total = readings.iter().map(|&x| x as u64).sum::<u64>() % MOST_Q as u64;
-    assert_eq!(((first as u64 + second as u64) % MOST_Q as u64, total), (2_705_098_244, 2_705_098_244));
+    unmask(MAX_Q, &uploads, &keys, &mut back).unwrap();
+    assert_eq!(back, readings);
+    let mut server = ServerRound::open(&WIDE, 1, 9).unwrap();
+    for (cluster, wanted) in [(1, 1_230_196_257), (2, 1_474_901_987)] {
+        let mut relay = RelayRound::open(&WIDE, 1, cluster, 9).unwrap();
+        let own = &uploads[2 * cluster as usize - 2..];
+        assert_eq!((relay.count(1, 9, &own[..1]), relay.count(2, 9, &own[1..2])), (Ok(()), Ok(())));
+        let mut sum = [0];
+        relay.give(&mut sum).unwrap();
+        assert_eq!(sum, [wanted]);
+        server.count(cluster as usize, 9, &sum).unwrap();
+    }
+    let mut total = [0];
+    server.give(&mut total).unwrap();
+    assert_eq!(total, [2_705_098_244]);
 }
 
-/// A record with other bytes from a place on.
-fn other(record: &[u8], place: usize, by: &[u8]) -> Vec<u8> {
-    let mut bytes = record.to_vec();
-    bytes[place..place + by.len()].copy_from_slice(by);
-    bytes
-}
-
+/// What a wide record and an old one are refused for.
 #[test]
-fn read_wide_records() {
-    assert_eq!(read_record(&WIDE_RECORD), Ok((WIDE, WIDE_TABLE.to_vec())));
-    assert_eq!(vet_record(&WIDE_RECORD), Ok(()));
-    let least = Plan { clusters: 2, size: 1, limit: 0, rate: 1, q: 65_537 };
-    assert_eq!(read_record(&LEAST_RECORD), Ok((least, vec![1, 65_536])));
-    assert_eq!(vet_record(&LEAST_RECORD), Ok(()));
-    // what stands before a record doesn't matter, be it a record of the other kind
-    assert_eq!(read_record(&[&RECORD[..], &WIDE_RECORD].concat()), Ok((WIDE, WIDE_TABLE.to_vec())));
-    assert_eq!(read_record(&[&WIDE_RECORD[..], &RECORD].concat()), Ok((SMALL, TABLE.to_vec())));
-    assert_eq!(vet_record(&other(&WIDE_RECORD, 2, &[2])), refused(7, 3, 2));
-    assert_eq!(vet_record(&other(&WIDE_RECORD, 8, &[2])), refused(6, 1, 0));
-}
-
-#[test]
-fn wide_records_refused() {
-    let says = |bytes: &[u8], number| {
-        assert_eq!((vet_record(bytes), read_record(bytes)), (refused(number, 0, 0), refused(number, 0, 0)), "{bytes:?}");
+fn trailers_refused() {
+    let says = |bytes: &[u8], refusal| {
+        assert_eq!((vet_record(bytes), KeyTable::read_record(bytes).map(drop)), (Err(refusal), Err(refusal)), "{bytes:?}");
     };
-    says(&WIDE_RECORD[..59], 5);
-    says(&WIDE_RECORD[1..], 5);
+    says(&WIDE_RECORD[..59], Refusal::BadTrailer);
+    says(&WIDE_RECORD[1..], Refusal::BadTrailer);
     // neither kind's marks; then D beyond the bytes, and under 12, or of an old record under 10
     for (place, by) in [(58, [0x4B, 0x52]), (58, [0x4A, 0x51]), (56, [61, 0]), (56, [11, 0]), (56, [10, 0])] {
-        says(&other(&WIDE_RECORD, place, &by), 5);
+        says(&other(&WIDE_RECORD, place, &by), Refusal::BadTrailer);
     }
-    says(&other(&RECORD, 30, &[9]), 5);
-    // the least distances pass on to 1, and so does 11 in an old record: no plan has such counts
-    says(&other(&WIDE_RECORD, 56, &[12]), 1);
-    says(&other(&RECORD, 30, &[10]), 1);
-    says(&other(&RECORD, 30, &[11]), 1);
-    // both marks over the same bytes
-    says(&other(&WIDE_RECORD, 59, &[0x50]), 4);
-    says(&other(&RECORD, 33, &[0x51]), 4);
-    // no prime, one only in its low 16 bits, and one whose record is an old one, though every symbol is below it
-    for q in [u32::MAX, 65_541, 65_521] {
-        says(&other(&WIDE_RECORD, 4, &q.to_le_bytes()), 2);
-    }
-    says(&other(&LEAST_RECORD, 4, &[0xF1, 0xFF, 0, 0, 1, 0, 0, 0, 0xF0, 0xFF, 0, 0]), 2);
-    // a symbol that is q, one whose low 16 bits are small, and those of the largest prime under a smaller one
-    says(&other(&WIDE_RECORD, 8, &MOST_Q.to_le_bytes()), 3);
-    says(&other(&LEAST_RECORD, 8, &[1, 0, 2, 0]), 3);
-    says(&other(&WIDE_RECORD, 4, &65_537_u32.to_le_bytes()), 3);
+    says(&other(&RECORD, 30, &[9]), Refusal::BadTrailer);
+    // the least distances pass on to 1: no plan has such counts
+    says(&other(&WIDE_RECORD, 56, &[12]), Refusal::OutOfBounds);
+    says(&other(&RECORD, 30, &[10]), Refusal::OutOfBounds);
+    // a symbol that is q, and those of the largest prime under a smaller one
+    says(&other(&WIDE_RECORD, 8, &MAX_Q.to_le_bytes()), Refusal::NotASymbol);
+    says(&other(&WIDE_RECORD, 4, &65_537_u32.to_le_bytes()), Refusal::NotASymbol);
 }

@@ -194,8 +194,28 @@ pub fn distance_damaged(s: &mut Seeded, bytes: Vec<u8>) -> Vec<u8> {
 
 /// Primes and others near the bounds of both forms, a square, and numbers that pass Fermat's test with 2.
 const NEAR: [Symbol; 22] = [
-    0, 1, 2, 3, 4, 9, 25, 255, 256, 32_767, 65_521, 65_522, 65_535, 65_536, 65_537, 65_541, 12_327_121, 3_215_031_751, 4_293_001_441,
-    4_294_967_291, 4_294_967_293, 4_294_967_295,
+    0,
+    1,
+    2,
+    3,
+    4,
+    9,
+    25,
+    255,
+    256,
+    32_767,
+    65_521,
+    65_522,
+    65_535,
+    65_536,
+    65_537,
+    65_541,
+    12_327_121,
+    3_215_031_751,
+    4_293_001_441,
+    4_294_967_291,
+    4_294_967_293,
+    4_294_967_295,
 ];
 
 /// One of U, V, T, R and q becomes another that is near its bounds.

@@ -6,12 +6,15 @@ mod model;
 mod reader;
 mod seeded;
 
-use kortyghai::Symbol;
+use kortyghai::{raw, Symbol};
 use reader::{Code, Form, Found, Plan, Reading, FINDINGS, FORMS};
 use seeded::Seeded;
 use std::time::Instant;
 
 type Leaks = fn(&Plan, usize, usize) -> bool;
+
+/// What a kind of damage makes of a record.
+type Damage = fn(&mut Seeded, Vec<u8>) -> Vec<u8>;
 
 /// What the lent buffers hold before a call, and the places after them that are not lent.
 const MARK: Symbol = 0xABCD_ABCD;
@@ -104,7 +107,18 @@ struct Kind {
 }
 
 fn code(answer: Result<(), kortyghai::Refusal>) -> Code {
-    answer.map_or_else(|r| (r.number, r.first, r.second), |()| (0, 0, 0))
+    answer.map_or_else(|r| (r.number(), r.details().0, r.details().1), |()| (0, 0, 0))
+}
+
+/// What is read and written again is the record that was read; the safe crate reads the same plan.
+fn written_again(bytes: &[u8], plan: &Plan) -> bool {
+    let Ok(table) = kortyghai::KeyTable::read_record(bytes) else { return false };
+    let read = table.plan();
+    let numbers = [read.clusters, read.size, read.limit, read.rate].map(|n| n as usize);
+    let mut record = vec![0; read.record_size()];
+    table.write_record(&mut record) == Ok(())
+        && bytes.ends_with(&record)
+        && (numbers, read.q, table.symbols()) == ([plan.clusters, plan.size, plan.limit, plan.rate], plan.q, &plan.table[..])
 }
 
 fn hex(bytes: &[u8]) -> String {
@@ -121,7 +135,7 @@ impl Kind {
         self.vetted.numbers.iter().sum()
     }
 
-    /// The vet of a record, then the reader with a lent table that is mostly of the right length.
+    /// The vet of a record, then the reader with lent buffers that are mostly of the right lengths.
     fn attempt(&mut self, s: &mut Seeded, bytes: &[u8], leaks: Leaks) {
         self.vet_one(bytes, leaks);
         let lent = if s.below(8) > 0 { 256 } else { s.one_of(&[0, 1, 12, 255, 257, 299]) };
@@ -142,18 +156,22 @@ impl Kind {
 
     /// A refused read leaves both lent buffers as they were; an accepted one writes them, and nothing past them.
     fn read_one(&mut self, bytes: &[u8], lent: usize) {
-        let (mut table, mut counts) = ([MARK; 300], [MARK; 10]);
-        let got = code(kortyghai::read_record_into(bytes, &mut table[..lent], counts.first_chunk_mut().unwrap()));
-        let (mut full, mut five) = ([MARK; 300], [MARK; 10]);
+        let (mut table, mut counts) = ([MARK; 300], [[MARK; 5]; 3]);
+        // between two others that are not lent
+        let [_, lent_counts, _] = &mut counts;
+        let answer = unsafe { raw::kortyghai_read_record(bytes.as_ptr(), bytes.len(), lent_counts, table.as_mut_ptr(), lent) };
+        let got = code(kortyghai::Refusal::unpack(answer));
+        let (mut full, mut five) = ([MARK; 300], [[MARK; 5]; 3]);
         let reading = reader::read(bytes, lent);
         let wanted = reading.code();
         if let Ok(plan) = &reading.plan {
             full[..256].fill(0);
             full[..plan.table.len()].copy_from_slice(&plan.table);
-            five[..4].copy_from_slice(&[plan.clusters, plan.size, plan.limit, plan.rate].map(|n| n as Symbol));
-            five[4] = plan.q;
+            five[1][..4].copy_from_slice(&[plan.clusters, plan.size, plan.limit, plan.rate].map(|n| n as Symbol));
+            five[1][4] = plan.q;
         }
-        let written = table == full && counts == five;
+        let again = reading.plan.as_ref().map_or(true, |plan| written_again(bytes, plan));
+        let written = table == full && counts == five && again;
         let right = got == wanted && written;
         if !right && self.read.differ < 5 {
             let buffers = if written { "the same buffers" } else { "other buffers" };
@@ -215,7 +233,7 @@ fn seeded(s: &mut Seeded, name: &'static str, count: usize, leaks: Leaks, make: 
 }
 
 fn all_kinds(s: &mut Seeded, count: usize) -> Vec<Kind> {
-    let damaged: [(&'static str, fn(&mut Seeded, Vec<u8>) -> Vec<u8>); 10] = [
+    let damaged: [(&'static str, Damage); 10] = [
         ("records as they are", |_, bytes| bytes),
         ("bytes changed", buffers::changed),
         ("truncated", buffers::truncated),

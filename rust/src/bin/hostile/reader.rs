@@ -28,7 +28,7 @@ fn primes() -> &'static [Symbol] {
 
 /// Does no prime up to the root divide q?
 fn is_prime(q: Symbol) -> bool {
-    q >= 2 && primes().iter().take_while(|&&p| p as u64 * p as u64 <= q as u64).all(|p| q % p != 0)
+    q >= 2 && primes().iter().take_while(|&&p| p as u64 * p as u64 <= q as u64).all(|&p| !q.is_multiple_of(p))
 }
 
 /// A number, low byte first.
@@ -47,11 +47,19 @@ pub const FORMS: [Form; 2] = [Form::Old, Form::Wide];
 
 impl Form {
     pub fn mark(self) -> u8 {
-        if self == Form::Old { 0x50 } else { 0x51 }
+        if self == Form::Old {
+            0x50
+        } else {
+            0x51
+        }
     }
 
     pub fn width(self) -> usize {
-        if self == Form::Old { 2 } else { 4 }
+        if self == Form::Old {
+            2
+        } else {
+            4
+        }
     }
 
     /// D of a plan with so many symbols: the counts, q, the symbols, the distance and the marks.
@@ -93,7 +101,7 @@ pub const FINDINGS: [(Found, u16, &str); 11] = [
     (Found::BeyondTheBytes, 5, "D beyond the bytes"),
     (Found::OutOfBounds, 1, "a count outside its bounds"),
     (Found::DistanceNotThePlans, 4, "D not the plan's"),
-    (Found::LentWrongly, 4, "lent lengths"),
+    (Found::LentWrongly, 4, "lent length"),
     (Found::NoPrime, 2, "q no prime"),
     (Found::OtherFormsPrime, 2, "a prime below 65,536 in a wide one"),
     (Found::NotASymbol, 3, "a symbol not below q"),
@@ -123,7 +131,7 @@ fn body(bytes: &[u8], form: Form) -> Result<&[u8], Found> {
     Ok(&bytes[start..trailer])
 }
 
-/// The plan of a record's body. `lent` says whether what is lent has its exact lengths.
+/// The plan of a record's body. `lent` says whether the lent table has its exact length.
 fn plan_of(body: &[u8], form: Form, lent: bool) -> Result<Plan, Found> {
     let [clusters, size, limit, rate] = [body[0], body[1], body[2], body[3]].map(usize::from);
     let users = clusters * size;

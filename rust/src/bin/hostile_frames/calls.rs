@@ -1,7 +1,7 @@
 //! The archive's three calls on a round, and the same by the safe crate. Every lent place stands between marks.
 
-use crate::states::Frame;
-use kortyghai::{raw, Refusal, RelayRound, Symbol};
+use crate::states::{Frame, RelayRound};
+use kortyghai::{raw, Refusal, Symbol};
 
 /// What stands around the lent places.
 const MARK: u16 = 0xABCD;
@@ -75,10 +75,10 @@ impl Lent {
 /// A frame.
 pub fn count(round: &RelayRound, frame: &Frame) -> Left {
     let mut lent = Lent::of(round);
-    let (given, counts) = (frame.block.clone(), round.counts());
+    let given = frame.block.clone();
     let answer = unsafe {
         raw::kortyghai_relay_count(
-            &counts,
+            &round.counts(),
             round.number,
             &mut lent.reported,
             &mut lent.sums,
@@ -91,33 +91,25 @@ pub fn count(round: &RelayRound, frame: &Frame) -> Left {
         )
     };
     let left = lent.left(round, answer);
-    Left { clean: left.clean && given == frame.block && counts == round.counts(), ..left }
+    Left { clean: left.clean && given == frame.block, ..left }
 }
 
 /// Moving on.
 pub fn advance(round: &RelayRound) -> Left {
-    let (mut lent, counts) = (Lent::of(round), round.counts());
+    let mut lent = Lent::of(round);
     let answer = unsafe {
-        raw::kortyghai_relay_advance(
-            &counts,
-            &mut lent.number,
-            &mut lent.reported,
-            &mut lent.sums,
-            &mut lent.ahead,
-            &mut lent.held,
-        )
+        raw::kortyghai_relay_advance(&round.counts(), &mut lent.number, &mut lent.reported, &mut lent.sums, &mut lent.ahead, &mut lent.held)
     };
-    let left = lent.left(round, answer);
-    Left { clean: left.clean && counts == round.counts(), ..left }
+    lent.left(round, answer)
 }
 
 /// The sums asked for, into a buffer of `room` symbols.
 pub fn give(round: &RelayRound, room: usize) -> Left {
-    let (lent, counts) = (Lent::of(round), round.counts());
+    let lent = Lent::of(round);
     let mut out = marked(room);
     let answer = unsafe {
         raw::kortyghai_relay_give(
-            &counts,
+            &round.counts(),
             lent.number,
             lent.reported,
             &lent.sums,
@@ -127,29 +119,28 @@ pub fn give(round: &RelayRound, room: usize) -> Left {
             room,
         )
     };
-    let left = lent.left(round, answer);
-    Left { clean: left.clean && counts == round.counts(), out, ..left }
+    Left { out, ..lent.left(round, answer) }
 }
 
 /// The safe crate's answer as a number.
 fn number(answer: Result<(), Refusal>) -> u64 {
-    answer.map_or_else(|refusal| refusal.number as u64, |()| 0)
+    answer.map_or_else(|refusal| refusal.number() as u64, |()| 0)
 }
 
 pub fn safe_count(round: &RelayRound, frame: &Frame) -> Left {
-    let mut round = round.clone();
-    let answer = number(kortyghai::count_frame(&mut round, frame.sender, frame.said, &frame.block));
-    Left { answer, round, out: Vec::new(), clean: true }
+    let mut round = round.safe();
+    let answer = number(round.count(frame.sender, frame.said, &frame.block));
+    Left { answer, round: RelayRound::of(&round), out: Vec::new(), clean: true }
 }
 
 pub fn safe_advance(round: &RelayRound) -> Left {
-    let mut round = round.clone();
-    let answer = number(kortyghai::advance(&mut round));
-    Left { answer, round, out: Vec::new(), clean: true }
+    let mut round = round.safe();
+    let answer = number(round.advance());
+    Left { answer, round: RelayRound::of(&round), out: Vec::new(), clean: true }
 }
 
 pub fn safe_give(round: &RelayRound, room: usize) -> Left {
     let mut out = marked(room);
-    let answer = number(kortyghai::give_sums_into(round, &mut out[1..=room]));
+    let answer = number(round.safe().give(&mut out[1..=room]));
     Left { answer, round: round.clone(), out, clean: true }
 }

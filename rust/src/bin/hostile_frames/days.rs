@@ -3,9 +3,9 @@
 
 use crate::model::{total, Book};
 use crate::seeded::Seeded;
-use crate::states::{self, Frame, DAMAGES, LAST, OF_ROUND};
+use crate::states::{self, Frame, RelayRound, DAMAGES, LAST, OF_ROUND};
 use crate::tally::{Call, Kind};
-use kortyghai::{RelayRound, Symbol};
+use kortyghai::Symbol;
 
 /// What happens in a day, with the call that it is about and its share.
 #[derive(Clone, Copy)]

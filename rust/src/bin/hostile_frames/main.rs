@@ -12,9 +12,9 @@ mod states;
 mod tally;
 
 use days::Days;
-use kortyghai::{RelayRound, Symbol};
+use kortyghai::Symbol;
 use seeded::Seeded;
-use states::{Case, Frame, DAMAGES, LAST, OF_ROUND};
+use states::{Case, Frame, RelayRound, DAMAGES, LAST, OF_ROUND};
 use std::time::Instant;
 use tally::{Call, Kind, CALLS, NUMBERS};
 
@@ -136,7 +136,7 @@ fn every_set(s: &mut Seeded) -> Kind {
 /// A damaged round gets the first number of its damages by every call, whatever the frame.
 fn attempt_set(kind: &mut Kind, s: &mut Seeded, set: usize) {
     let ((round, frame), number) = states::damaged(s, set);
-    let of_round = Some(number).filter(|_| set % (1 << OF_ROUND) > 0);
+    let of_round = Some(number).filter(|_| !set.is_multiple_of(1 << OF_ROUND));
     kind.attempt(&round, &frame, Some(number), of_round);
 }
 
@@ -188,7 +188,7 @@ fn tell(kinds: &[Kind], days: &Days) -> Kind {
         let numbers: String = NUMBERS.iter().map(|n| format!("{n:8}")).collect();
         println!("{title:34}{:>8}{numbers}{:>8}", "tried", "differ");
     };
-    head("count_frame, kind of frame");
+    head("relay_count, kind of frame");
     kinds.iter().for_each(|kind| println!("{}", kind.line(Call::Count)));
     let mut all = Kind::named("all");
     kinds.iter().chain(&days.kinds).for_each(|kind| all.add(kind));

@@ -3,8 +3,8 @@
 //! the list, and moving on turns a page. Round numbers are wider than a frame's, so that r + 1 is always a number. It adds whole
 //! numbers and then reduces them, and knows a prime by its having no divisor but 1 up to its root.
 
-use crate::states::Frame;
-use kortyghai::{RelayRound, Symbol};
+use crate::states::{Frame, RelayRound};
+use kortyghai::Symbol;
 use std::collections::HashMap;
 use std::sync::Mutex;
 
@@ -30,7 +30,7 @@ pub struct Book {
 /// Has q, of all numbers up to its root, the divisor 1 alone? Each q is looked at once, as the same few come often.
 fn is_prime(q: Symbol) -> bool {
     static KNOWN: Mutex<Option<HashMap<Symbol, bool>>> = Mutex::new(None);
-    let divisors = || (1..=q.isqrt()).filter(|d| q % d == 0).take(2).count();
+    let divisors = || (1..=q.isqrt()).filter(|&d| q.is_multiple_of(d)).take(2).count();
     *KNOWN.lock().unwrap().get_or_insert_default().entry(q).or_insert_with(|| q != 1 && divisors() == 1)
 }
 
@@ -186,7 +186,11 @@ mod tests {
     #[test]
     fn rolls_are_refused_before_sums() {
         let wrong = |round: RelayRound| Book::of(&round).give(1).unwrap_err();
-        let (bad, past) = ([5; 64], { let mut row = [0; 64]; row[1] = 1; row });
+        let (bad, past) = ([5; 64], {
+            let mut row = [0; 64];
+            row[1] = 1;
+            row
+        });
         assert_eq!([wrong(RelayRound { sums: bad, ahead: 4, ..round() }), wrong(RelayRound { held: bad, reported: 4, ..round() })], [8, 8]);
         assert_eq!([wrong(RelayRound { held: bad, ..round() }), wrong(RelayRound { held: past, ..round() })], [3, 3]);
         assert_eq!(wrong(RelayRound { sums: past, cluster: 3, length: 65, ..round() }), 9);

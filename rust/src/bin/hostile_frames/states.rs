@@ -1,7 +1,41 @@
 //! Seeded rounds and frames, and what damage makes of them.
 
 use crate::seeded::Seeded;
-use kortyghai::{RelayRound, Symbol};
+use kortyghai::Symbol;
+
+/// A relay's round, its counts as wide as a frame's sender.
+#[derive(Clone, PartialEq, Debug)]
+pub struct RelayRound {
+    pub clusters: usize,
+    pub size: usize,
+    pub q: Symbol,
+    pub length: usize,
+    pub cluster: usize,
+    pub number: u32,
+    pub reported: u16,
+    pub sums: [Symbol; 64],
+    pub ahead: u16,
+    pub held: [Symbol; 64],
+}
+
+impl RelayRound {
+    /// U, V, q, L and the cluster, as they are lent: the first 32 bits of each, and no round here has more.
+    pub fn counts(&self) -> [Symbol; 5] {
+        [self.clusters as Symbol, self.size as Symbol, self.q, self.length as Symbol, self.cluster as Symbol]
+    }
+
+    pub fn safe(&self) -> kortyghai::RelayRound {
+        let [clusters, size, q, length, cluster] = self.counts();
+        let (number, reported, sums, ahead, held) = (self.number, self.reported, self.sums, self.ahead, self.held);
+        kortyghai::RelayRound { clusters, size, q, length, cluster, number, reported, sums, ahead, held }
+    }
+
+    pub fn of(round: &kortyghai::RelayRound) -> RelayRound {
+        let [clusters, size, length, cluster] = [round.clusters, round.size, round.length, round.cluster].map(|n| n as usize);
+        let (q, number, reported, sums, ahead, held) = (round.q, round.number, round.reported, round.sums, round.ahead, round.held);
+        RelayRound { clusters, size, q, length, cluster, number, reported, sums, ahead, held }
+    }
+}
 
 #[derive(Clone)]
 pub struct Frame {
@@ -17,7 +51,23 @@ pub const LAST: u32 = u32::MAX;
 
 /// Small and large primes, and those around which a symbol stops fitting into 16 bits, and two into 16 or 32 when added.
 pub const PRIMES: [Symbol; 18] = [
-    2, 3, 5, 7, 11, 251, 257, 32_749, 32_771, 65_519, 65_521, 65_537, 65_539, 2_147_483_629, 2_147_483_647, 2_147_483_659, 4_294_967_279,
+    2,
+    3,
+    5,
+    7,
+    11,
+    251,
+    257,
+    32_749,
+    32_771,
+    65_519,
+    65_521,
+    65_537,
+    65_539,
+    2_147_483_629,
+    2_147_483_647,
+    2_147_483_659,
+    4_294_967_279,
     4_294_967_291,
 ];
 
@@ -96,7 +146,12 @@ pub fn good_short(s: &mut Seeded) -> Case {
     }
 }
 
-/// Far above every bound; some are `n` again once they are cut to fewer bits.
+/// Far above every bound, in 32 bits; some are `n` again once they are cut to fewer.
+fn large(s: &mut Seeded, n: usize) -> usize {
+    s.one_of(&[n + (1 << 8), n + (1 << 16), n + (1 << 31), 1 << 16, 1 << 31, MOST - 1, MOST])
+}
+
+/// The same in 64 bits.
 fn huge(s: &mut Seeded, n: usize) -> usize {
     s.one_of(&[n + (1 << 8), n + (1 << 16), n + (1 << 32), n + (1 << 63), 1 << 32, 1 << 63, usize::MAX - 1, usize::MAX])
 }
@@ -107,11 +162,14 @@ fn too_large(s: &mut Seeded, q: Symbol) -> Symbol {
     s.one_of(&[q, q.saturating_add(1), q + more, q.max(65_536), Symbol::MAX])
 }
 
+/// The largest number that a round's counts can have.
+const MOST: usize = Symbol::MAX as usize;
+
 fn counts(s: &mut Seeded, (round, _): &mut Case) {
     let (clusters, size) = (round.clusters, round.size);
-    let wrong = [0, 9, 10, 16, 17, 255, huge(s, clusters), huge(s, size)];
+    let wrong = [0, 9, 10, 16, 17, 255, large(s, clusters), large(s, size)];
     let crowd = s.one_of(&[(3, 6), (6, 3), (4, 5), (5, 4), (8, 3), (3, 8), (2, 9), (9, 1), (8, 8)]);
-    let wraps = s.one_of(&[(1 << 32, 1 << 32), (1 << 63, 2), (2, 1 << 63), (usize::MAX, usize::MAX), (0, 0), (0, usize::MAX)]);
+    let wraps = s.one_of(&[(1 << 16, 1 << 16), (1 << 31, 2), (2, 1 << 31), (MOST, MOST), (0, 0), (0, MOST)]);
     (round.clusters, round.size) = match s.below(6) {
         0 | 1 => (s.one_of(&wrong), size),
         2 | 3 => (clusters, s.one_of(&wrong)),
@@ -129,12 +187,12 @@ fn no_prime(s: &mut Seeded, (round, _): &mut Case) {
 }
 
 fn length(s: &mut Seeded, (round, _): &mut Case) {
-    let far = huge(s, round.length);
+    let far = large(s, round.length);
     round.length = s.one_of(&[0, 0, 65, 65, 66, 70, 128, 255, far, far]);
 }
 
 fn cluster(s: &mut Seeded, (round, _): &mut Case) {
-    let far = huge(s, round.cluster);
+    let far = large(s, round.cluster);
     round.cluster = s.one_of(&[0, 0, round.clusters + 1, round.clusters + 1, 9, 16, far, far]);
 }
 
