@@ -1,14 +1,20 @@
--- What a planner's numbers ask for: a pair of relays under one lock, and the five numbers of a plan.
+-- What a planner's numbers ask for: a prime, a pair of relays under one lock, and the five numbers of a plan.
 use Prim.Native.Nat.{ℕ}
-use mathlib.Core.Bool.{cond, _&&_}
+use mathlib.Core.Bool.{Bool, not, cond, _&&_}
 use mathlib.Core.List.{List, [], _∷_}
 use lib.Dec.{eqb}
 use Rattle.refusals.specs.declared.Code.{Code}
+use Rattle.refusals.specs.Codes.{code}
+use Rattle.residues.specs.Primes.{isPrime}
 use Rattle.lists.specs.Lists.{at}
 use Rattle.plans.specs.declared.Plan.{Plan}
 use Rattle.vetting.specs.declared.Joint.{Joint}
 use Rattle.vetting.specs.declared.Joint.the-variants.{None, Relays}
 use Rattle.keys.specs.Maker.{rateOf, makerCode, makerTable}
+
+-- whether q may be a plan's
+abbrev pub primeChecks : ℕ → List (Bool × Code)
+primeChecks q = (not (isPrime q), code 2) ∷ []
 
 -- two zeros stand for no pair
 abbrev pub jointOf : ℕ → ℕ → Joint

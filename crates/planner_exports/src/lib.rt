@@ -2,6 +2,7 @@
 mod plans_and_tables;
 mod records_of_plans;
 
+pub use plans_and_tables::kortyghai_check_prime;
 pub use plans_and_tables::kortyghai_count_pairs;
 pub use plans_and_tables::kortyghai_make_table;
 pub use plans_and_tables::kortyghai_rate;

@@ -1,4 +1,4 @@
-// The vet, how long it is, and the table maker. U, V, T, R and q of a plan are lent in one run.
+// The test for primes, the vet, how long it is, and the table maker. U, V, T, R and q of a plan are lent in one run.
 ghost use mathlib.Core.Path.{_≡_};
 ghost use Rattle.refusals.specs.Codes.{firstOf, ifAccepted};
 ghost use Rattle.vetting.specs.Vet.{vetCode};
@@ -7,7 +7,7 @@ ghost use Rattle.vetting.specs.Length.{countChecks, pairCount};
 ghost use Rattle.keys.specs.Maker.{rateOf, rateChecks};
 ghost use Rattle.boundary.specs.Packed.{packed};
 ghost use Rattle.boundary.specs.Counts.{planOf};
-ghost use Rattle.planner_exports.specs.Asked.{jointOf, askedCode, askedTable, madeCounts};
+ghost use Rattle.planner_exports.specs.Asked.{primeChecks, jointOf, askedCode, askedTable, madeCounts};
 use crate::records_of_plans::counts_of;
 use arithmetic::Symbol;
 use boundary::PLAN_NUMBERS;
@@ -16,10 +16,22 @@ use boundary::pack_verdict;
 use boundary::plan_of;
 use keys::Needed;
 use plans::Planned;
+use refusals::Refusal;
 use refusals::Verdict;
 use refusals::code_of;
 use vetting::Joint;
 use vetting::PairCount;
+
+// Whether q may be a plan's: 2 where it is no prime.
+#[no_mangle]
+pub extern "C" fn kortyghai_check_prime(q: Symbol) -> u64
+    ensures { λ r. ⌜ r ≡ packed (firstOf (primeChecks q)) ⌝ }
+{
+    if primes::is_prime(q) {
+        return pack_verdict(Verdict::Accepted);
+    }
+    pack(code_of(Refusal::NotPrime))
+}
 
 // The vet's verdict on a plan and its key table.
 #[no_mangle]
