@@ -77,18 +77,22 @@ fn class(answer: usize) -> usize {
     if first_of(answer) == 0 { 7 } else { 9 }
 }
 
+// Whether the vet says the same with its count, which is right, and whether a plan is accepted without its walk just where the vet accepts it.
+fn says_again(s: Shape, t: &[Symbol], answer: usize) -> bool {
+    if vetting::accepts(plan_of(s), t) != (answer == 0) {
+        return false;
+    }
+    let report = vetting::vet_counted(plan_of(s), t);
+    let verdict = report.verdict;
+    said(verdict) == answer && report.looked as usize == looked_at(s, answer)
+}
+
 // The class of the answer, or 8 where the two answers differ.
 fn compare(c: Case, t: &mut [Symbol], counts: &mut [u8; 65536]) -> usize {
     cases::fill(c, t);
     let s = cases::shape(c);
     let answer = said(vetting::vet(plan_of(s), t));
-    let report = vetting::vet_counted(plan_of(s), t);
-    let verdict = report.verdict;
-    let accepted = vetting::accepts(plan_of(s), t) == (answer == 0);
-    let same = accepted
-        && said(verdict) == answer
-        && report.looked as usize == looked_at(s, answer);
-    if !same || answer != second_answer(c, t, counts) {
+    if !says_again(s, t, answer) || answer != second_answer(c, t, counts) {
         return 8;
     }
     class(answer)
