@@ -1,9 +1,7 @@
 //! Tests for primes in plain Rust, and their times beside that of the proved one.
 //!
-//! The archive has no entry for the test alone. An upload of no symbols makes it and is then refused: by 2 where q is no prime, and by
-//! 9 where it is one. So that call is timed, and the plain side has a function of the same shape for each of its tests.
+//! The proved test is called by its entry, which answers 0 or 2; the plain side has a function of the same shape for each of its tests.
 
-use crate::rounds::block_code;
 use crate::speed::processor_time;
 use crate::tally::{Seeded, NO_PRIMES};
 use crate::{proved, Code, Symbol};
@@ -105,37 +103,41 @@ pub fn is_prime(q: Symbol) -> bool {
     }
 }
 
-#[inline(never)]
-fn with_odd_divisors(q: Symbol, length: usize, a: &[Symbol], key: &[Symbol], out: &mut [Symbol]) -> Code {
-    Code(block_code(by_odd_divisors, q, length, a, key, out), 0, 0)
+/// What the entry answers, by a plain test.
+fn code(prime: bool) -> Code {
+    Code(if prime { 0 } else { 2 }, 0, 0)
 }
 
 #[inline(never)]
-fn with_miller_rabin(q: Symbol, length: usize, a: &[Symbol], key: &[Symbol], out: &mut [Symbol]) -> Code {
-    Code(block_code(by_miller_rabin, q, length, a, key, out), 0, 0)
+fn with_odd_divisors(q: Symbol) -> Code {
+    code(by_odd_divisors(q))
 }
 
 #[inline(never)]
-fn with_before(q: Symbol, length: usize, a: &[Symbol], key: &[Symbol], out: &mut [Symbol]) -> Code {
-    Code(block_code(|q| before(q as u16), q, length, a, key, out), 0, 0)
+fn with_miller_rabin(q: Symbol) -> Code {
+    code(by_miller_rabin(q))
 }
 
-/// Whether the proved test calls q a prime; nothing where the answer is neither 9 nor 2.
+#[inline(never)]
+fn with_before(q: Symbol) -> Code {
+    code(before(q as u16))
+}
+
+/// Whether the proved test calls q a prime; nothing where the answer is neither 0 nor 2.
 pub fn proved_says(q: Symbol) -> Option<bool> {
-    match proved::upload(q, 0, &[], &[], &mut []) {
-        Code(9, 0, 0) => Some(true),
+    match proved::check_prime(q) {
+        Code(0, 0, 0) => Some(true),
         Code(2, 0, 0) => Some(false),
         _ => None,
     }
 }
 
 /// The seconds of so many rounds of calls, one call for each number in turn.
-fn timed(call: impl Fn(Symbol, usize, &[Symbol], &[Symbol], &mut [Symbol]) -> Code, numbers: &[Symbol], rounds: usize) -> f64 {
-    let (none, out): (&[Symbol], &mut [Symbol]) = (black_box(&[]), black_box(&mut []));
+fn timed(call: impl Fn(Symbol) -> Code, numbers: &[Symbol], rounds: usize) -> f64 {
     let start = processor_time();
     for _ in 0..rounds {
         for &q in numbers {
-            black_box(call(black_box(q), none.len(), none, none, out));
+            black_box(call(black_box(q)));
         }
     }
     processor_time() - start
@@ -163,7 +165,7 @@ struct Row {
 /// Prints nanoseconds a call and shares. Where 16 bits don't hold the numbers, what stands under before means nothing and is left out.
 fn row(name: &str, numbers: &[Symbol]) -> Row {
     let [proved, divisors, miller_rabin, before] = least([
-        &|rounds| timed(proved::upload, numbers, rounds),
+        &|rounds| timed(proved::check_prime, numbers, rounds),
         &|rounds| timed(with_odd_divisors, numbers, rounds),
         &|rounds| timed(with_miller_rabin, numbers, rounds),
         &|rounds| timed(with_before, numbers, rounds),

@@ -6,6 +6,7 @@ use crate::windows::{Window, PLACES};
 use crate::{Code, Plan, Symbol};
 
 extern "C" {
+    fn kortyghai_check_prime(q: Symbol) -> u64;
     fn kortyghai_vet(plan: *const [Symbol; 5], table: *const Symbol, symbols: usize) -> u64;
     fn kortyghai_make_table(plan: *mut [Symbol; 5], generator: Symbol, table: *mut Symbol, symbols: usize) -> u64;
     fn kortyghai_derive_keys(
@@ -86,6 +87,10 @@ fn plan_run(plan: &Plan) -> [Symbol; 5] {
 
 fn relay_run(r: &Relay) -> [Symbol; 5] {
     run([r.clusters, r.size, r.q as usize, r.length, r.cluster])
+}
+
+pub fn check_prime(q: Symbol) -> Code {
+    unpack(unsafe { kortyghai_check_prime(q) })
 }
 
 pub fn vet(plan: &Plan) -> Code {

@@ -39,9 +39,9 @@ fn add(q: Symbol, a: Symbol, b: Symbol) -> Symbol {
     (if sum >= q as u64 { sum - q as u64 } else { sum }) as Symbol
 }
 
-/// "Upload, and taking a key off: 2, 9, 4, 3." With such a test for primes.
-pub fn block_code(test: impl Fn(Symbol) -> bool, q: Symbol, length: usize, a: &[Symbol], b: &[Symbol], out: &[Symbol]) -> u16 {
-    if !test(q) {
+/// "Upload, and taking a key off: 2, 9, 4, 3."
+fn block_code(q: Symbol, length: usize, a: &[Symbol], b: &[Symbol], out: &[Symbol]) -> u16 {
+    if !is_prime(q) {
         return 2;
     }
     if !(1..=64).contains(&length) {
@@ -58,7 +58,7 @@ pub fn block_code(test: impl Fn(Symbol) -> bool, q: Symbol, length: usize, a: &[
 
 #[inline(never)]
 pub fn upload(q: Symbol, length: usize, readings: &[Symbol], key: &[Symbol], out: &mut [Symbol]) -> Code {
-    let code = block_code(is_prime, q, length, readings, key, out);
+    let code = block_code(q, length, readings, key, out);
     if code == 0 {
         for ((o, &a), &b) in out.iter_mut().zip(readings).zip(key) {
             *o = add(q, a, b);
@@ -69,7 +69,7 @@ pub fn upload(q: Symbol, length: usize, readings: &[Symbol], key: &[Symbol], out
 
 #[inline(never)]
 pub fn unmask(q: Symbol, length: usize, upload: &[Symbol], key: &[Symbol], out: &mut [Symbol]) -> Code {
-    let code = block_code(is_prime, q, length, upload, key, out);
+    let code = block_code(q, length, upload, key, out);
     if code == 0 {
         for ((o, &a), &b) in out.iter_mut().zip(upload).zip(key) {
             *o = add(q, a, q - b);
