@@ -226,6 +226,13 @@ uint64_t kortyghai_vet_joint(const uint32_t plan[KORTYGHAI_PLAN_NUMBERS], const 
                              size_t second, uint32_t *looked);
 
 /*
+ * Whether q may be a plan's prime.
+ *
+ * Refuses: 2.
+ */
+uint64_t kortyghai_check_prime(uint32_t q);
+
+/*
  * How many pairs of coalition and observer the vet looks at before it accepts: (U + 1) times the number of sets of at most
  * T out of U x V users. out gets it.
  *

@@ -81,7 +81,7 @@ void some_shape(uint32_t *clusters, uint32_t *size, size_t most) {
 /* ---- answers ---- */
 
 static const char *const names[ENTRIES] = {
-    "vet", "vet_joint", "count_pairs", "rate", "make_table", "vet_record", "read_record", "write_record", "derive_keys", "draw", "stock_open",
+    "check_prime", "vet", "vet_joint", "count_pairs", "rate", "make_table", "vet_record", "read_record", "write_record", "derive_keys", "draw", "stock_open",
     "stock_draw", "upload", "unmask", "signed_upload", "signed_unmask", "show_totals", "relay_open", "relay_count", "relay_advance",
     "relay_give", "relay_save", "relay_restore", "server_open", "server_count", "server_give", "window_open", "window_push", "window_sum",
     "window_largest", "network_vet", "network_upload", "network_sum", "network_decode"};

@@ -37,6 +37,7 @@ uint64_t model_vet(const uint32_t plan[KORTYGHAI_PLAN_NUMBERS], const uint32_t *
 uint64_t model_vet_joint(const uint32_t plan[KORTYGHAI_PLAN_NUMBERS], const uint32_t *table, size_t table_len, size_t first, size_t second,
                          uint32_t *looked);
 uint64_t model_count_pairs(size_t clusters, size_t size, size_t limit, uint32_t *out);
+uint64_t model_check_prime(uint32_t q);
 uint64_t model_rate(size_t clusters, size_t size, size_t limit, size_t *out);
 uint64_t model_make_table(uint32_t plan[KORTYGHAI_PLAN_NUMBERS], uint32_t generator, uint32_t *table, size_t table_len);
 uint64_t model_vet_record(const uint8_t *bytes, size_t bytes_len);

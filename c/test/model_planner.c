@@ -154,6 +154,10 @@ static size_t smaller(size_t a, size_t b) {
     return a < b ? a : b;
 }
 
+uint64_t model_check_prime(uint32_t q) {
+    return is_prime(q) ? 0 : 2;
+}
+
 uint64_t model_rate(size_t clusters, size_t size, size_t limit, size_t *out) {
     if (!counts_fit(clusters, size, limit)) return 1;
     if (limit >= (clusters - 1) * size) return 10;

@@ -80,6 +80,11 @@ static void vet(struct plan_call *x) {
               c->table.symbols, c->table_len, c->first, c->second, &c->looked);
 }
 
+static void check_prime(struct plan_call *x) {
+    uint32_t q = once_in(2) ? x->table.plan.numbers[4] : (uint32_t)draw_number();
+    BOTH(CHECK_PRIME, struct plan_call, x, check_prime, q);
+}
+
 static void count_pairs(struct plan_call *x) {
     const uint32_t *plan = x->table.plan.numbers;
     size_t u = plan[0], v = plan[1], t = plan[2];
@@ -112,6 +117,7 @@ static void try_plan(size_t users) {
     if (once_in(2)) damage_plan(&x);
     if (once_in(6)) damage_plan(&x);
     vet(&x);
+    check_prime(&x);
     count_pairs(&x);
     make_table(&x);
 }

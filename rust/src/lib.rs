@@ -70,7 +70,7 @@ mod window;
 
 pub use blocks::{unmask, upload};
 pub use network::{Network, Ring};
-pub use plan::{vet_record, Counts, KeyTable, Plan, Report};
+pub use plan::{check_prime, vet_record, Counts, KeyTable, Plan, Report};
 pub use refusal::Refusal;
 pub use relay::RelayRound;
 pub use server::ServerRound;

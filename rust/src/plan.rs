@@ -2,6 +2,15 @@
 
 use crate::{raw, Refusal, Symbol, MAX_RECORD, MAX_TABLE};
 
+/// Whether `q` may be a plan's prime.
+///
+/// # Errors
+///
+/// [`NotPrime`](Refusal::NotPrime).
+pub fn check_prime(q: Symbol) -> Result<(), Refusal> {
+    Refusal::unpack(unsafe { raw::kortyghai_check_prime(q) })
+}
+
 /// U clusters of V users and coalitions of at most T: what is known of a pool before it has a table.
 ///
 /// Any numbers can stand here; a call refuses those that are outside their bounds: U and V from 1 to 8, U × V at most 16, T from 0 to U × V.

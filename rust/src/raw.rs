@@ -39,6 +39,7 @@ extern "C" {
         second: usize,
         looked: *mut u32,
     ) -> u64;
+    pub fn kortyghai_check_prime(q: Symbol) -> u64;
     pub fn kortyghai_count_pairs(clusters: usize, size: usize, limit: usize, out: *mut u32) -> u64;
     pub fn kortyghai_rate(clusters: usize, size: usize, limit: usize, out: *mut usize) -> u64;
     pub fn kortyghai_make_table(plan: *mut PlanNumbers, generator: Symbol, table: *mut Symbol, symbols: usize) -> u64;

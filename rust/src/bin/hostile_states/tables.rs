@@ -184,6 +184,18 @@ fn safe_counts(u: usize, v: usize, t: usize) -> Option<Counts> {
     Some(Counts { clusters: narrow(u)?, size: narrow(v)?, limit: narrow(t)? })
 }
 
+/// Whether q may be a plan's: 2.
+fn primes(s: &mut Seeded, tally: &mut Tally) {
+    let few = s.below(1 << 16) as Symbol;
+    let chosen = some_q(s);
+    let q = s.one_of(&[few, chosen]);
+    let told = || format!("q {q}");
+    let verdict = first(&[(2, !is_prime(q))]);
+    let answer = unsafe { raw::kortyghai_check_prime(q) };
+    tally.compare("check_prime", &(verdict, ()), &(unpacked(answer), ()), told);
+    tally.also("check_prime", &(verdict, ()), &(safe(kortyghai::check_prime(q)), ()), told);
+}
+
 /// The length of the vet, and the maker's rate: 1, then 10, as the maker has them.
 fn lengths(s: &mut Seeded, tally: &mut Tally) {
     let (u, v, t) = some_counts(s, 16);
@@ -329,6 +341,7 @@ pub fn run(s: &mut Seeded, count: usize, tally: &mut Tally) {
         vets(s, tally, &plan, &table);
         writer(s, tally, &plan, &table);
         keys(s, tally, &plan, &table);
+        primes(s, tally);
         lengths(s, tally);
         maker(s, tally);
     }

@@ -64,7 +64,8 @@ impl<T: Copy + PartialEq> Lent<T> {
 }
 
 /// The numbers that an entry can answer.
-const ENTRIES: [(&str, &[u16]); 26] = [
+const ENTRIES: [(&str, &[u16]); 27] = [
+    ("check_prime", &[0, 2]),
     ("vet", &[0, 1, 2, 3, 4, 6, 7]),
     ("vet_joint", &[0, 1, 2, 3, 4, 6, 7, 8, 19]),
     ("count_pairs", &[0, 1]),
