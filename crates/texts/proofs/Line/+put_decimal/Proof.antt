@@ -59,7 +59,7 @@ put-decimal-returns : (t : ℕ) → put-decimal-lts.Need-returns (
 ) (put-decimal-at t) put-decimal.Post
 put-decimal-returns t c =
     let a = c .before .before .args in
-    c .put .ensures ∙ ap (typed (a .self)) (sym (one-digit (a .n) (c .before .if1 .taken)))
+    c .put .ensures ∙ ap (typed (a .self)) (sym (one-digit (a .n) (omega (arith, c .before .if1 .taken))))
 
 put-decimal-put-decimal-requires : (t : ℕ) → put-decimal-lts.Need-put-decimal-requires (
   put-reads.Asked,
@@ -105,7 +105,7 @@ put-decimal-returns-2 t c =
     c .put2 .ensures
     ∙ ap (λ (l : Line). typed l last) (c .before .put-decimal .ensures)
     ∙ sym (typed-append (a .self) (decimal (a .n / 10)) last)
-    ∙ ap (typed (a .self)) (sym (last-digit (a .n) (omega arith) (c .before .before .if1 .left)))
+    ∙ ap (typed (a .self)) (sym (last-digit (a .n) (omega arith) (omega (arith, c .before .before .if1 .left))))
 
 pub +put-decimal-spec : {M : Type 1} → statement M
 +put-decimal-spec = close μ-put-decimal λ t. put-decimal-lts.spec (
