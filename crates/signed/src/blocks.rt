@@ -1,5 +1,5 @@
-// Signed uploads, taking a key off, and totals shown. Once the readings are known to be inside the cap and the key to be symbols, no jump and no division on one
-// was seen (docs/MACHINE-CODE.md).
+// Signed uploads, taking a key off, and totals shown. Once the readings are known to be inside the cap and the key to be symbols, no jump and no division on
+// one was seen (docs/MACHINE-CODE.md).
 ghost use mathlib.Core.Path.{_≡_};
 ghost use Prim.Native.Nat.{_-_, _<_};
 ghost use mathlib.Core.Bool.{not, _&&_};
