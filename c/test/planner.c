@@ -81,8 +81,9 @@ static void vet(struct plan_call *x) {
 }
 
 static void check_prime(struct plan_call *x) {
-    uint32_t q = once_in(2) ? x->table.plan.numbers[4] : (uint32_t)draw_number();
-    BOTH(CHECK_PRIME, struct plan_call, x, check_prime, q);
+    struct plan_call other = *x;
+    if (once_in(2)) other.table.plan.numbers[4] = (uint32_t)draw_number();
+    BOTH(CHECK_PRIME, struct plan_call, &other, check_prime, c->table.plan.numbers[4]);
 }
 
 static void count_pairs(struct plan_call *x) {
