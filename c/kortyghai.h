@@ -34,8 +34,9 @@
  * where each is from -cap to cap and 2 x U x V x cap is below q; the calls that take a cap refuse every other cap by 16,
  * and readings outside it by 15. The largest cap of 16 users is 2,047 at q 65,521, and 134,217,727 at q 4,294,967,291.
  *
- * TIME. kortyghai_derive_keys vets the plan at each call: of the largest plans that takes some 100 to 150 ms, of 16 users
- * with T of 1 some 0.15 ms. So do the vets themselves and kortyghai_make_table. docs/SPEED.md has a table, and
+ * TIME. kortyghai_derive_keys and kortyghai_make_table judge the plan as the vet does, at each call, and walk only where they
+ * refuse it: of accepted plans with 16 users that takes 0.01 to 0.3 ms for T up to 2 and 1 to 20 ms for a larger T. The vets
+ * themselves walk: some 100 to 150 ms of the largest plans, some 0.15 ms of 16 users with T of 1. docs/SPEED.md has tables, and
  * kortyghai_count_pairs says beforehand how many pairs of coalition and observer there are. Cyclic networks take tens of
  * microseconds, all other calls a few at most.
  *
@@ -300,7 +301,7 @@ uint64_t kortyghai_write_record(const uint32_t plan[KORTYGHAI_PLAN_NUMBERS], con
 /*
  * WHOEVER DEALS KEYS.
  *
- * Each user's keys, for a plan that the vet accepts. The vet runs at each call.
+ * Each user's keys, for a plan that the vet accepts, which is judged at each call.
  *
  *     length   L, positions of a block, from 1 to 64
  *     source   the source key, exactly R x L symbols, position by position
