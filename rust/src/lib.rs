@@ -39,14 +39,15 @@
 //! - **Totals wrap modulo q.** A total is the sum of the readings modulo q, so that it is the sum itself where no sum can reach q. With signed readings
 //!   the cap sees to that: [`Plan::signed_upload`] refuses a cap m (16) unless 2 × U × V × m is below q, and a reading outside it (15); the shown total is
 //!   then the true sum.
-//! - **[`KeyTable::derive_keys`] vets the table at each call**, so that no key is ever dealt from a table that leaks. That costs what
-//!   [`Counts::pairs`] says: on a machine of 2.1 GHz from 0.1 ms (8 × 2 users, T 1) to 150 ms (8 × 2 users, T 13). Deal many positions in one call.
+//! - **[`KeyTable::derive_keys`] judges the table as the vet does at each call**, so that no key is ever dealt from a table that leaks. It walks only where
+//!   it refuses: of accepted tables with 16 users that takes 0.01 to 0.3 ms for T up to 2 and 1 to 20 ms for a larger T, where the vet itself takes up to
+//!   150 ms. Deal many positions in one call.
 //!
 //! # Time that depends on secrets
 //!
 //! Proofs say nothing of time. The machine code was looked at (docs/MACHINE-CODE.md): the loops of [`upload`], [`unmask`],
 //! [`Plan::signed_upload`], [`Plan::signed_unmask`], [`Plan::show_totals`] and of a frame's sums have no jump and no division that depends on a reading,
-//! a key or a sum. The checks before them leave at the first number that is refused (3 or 15), so that a refused call's time tells where that stands.
+//! a key or a sum. The check of signed readings before them leaves at the first that is refused (15), so that a refused call's time tells where that stands.
 //! [`KeyTable::derive_keys`] has jumps and divisions that depend on the source key, and the vet, records, windows and networks jump as their numbers say:
 //! call these where nobody can take the time of secrets. (A key table is no secret; a source key is.)
 

@@ -229,7 +229,7 @@ impl KeyTable {
     /// Each user's keys for `length` positions, into a lent buffer of exactly U × V × L symbols: user by user in index order, L symbols each.
     ///
     /// `source` is the source key, exactly R × L symbols, position by position: **drawn evenly, fresh, and used once**. The key of a user in a position
-    /// is the sum of its row times the position's source symbols, modulo q. **The table is vetted at each call** (the crate's page says what that
+    /// is the sum of its row times the position's source symbols, modulo q. **The table is judged at each call** (the crate's page says what that
     /// costs), and the time depends on the source key.
     ///
     /// # Errors
