@@ -1,5 +1,6 @@
--- A pool on paper (document 02, Q-8). The promises of `open`, `next_line`, `refused_line` and `try_round` (simulation) are `inputCode`, `runIn`, `nextLine`,
--- `nextRun` and so on, which the statements name. The program `simulate` opens what it reads, and writes the line of a refused input or the run's lines.
+-- A pool on paper (document 02, Q-8). The promises of `open`, `next_line` and `refused_line` (simulation) are `inputCode`, `runIn`, `nextLine`, `nextRun` and so
+-- on, which the statements name; that of `try_round` (trials) is below them. The program `simulate` opens what it reads, and writes the line of a refused input
+-- or the run's lines. That it does is not proved, as no contract says what is read or written: `written` has the same calls in the same order.
 use Prim.Native.Nat.{ℕ, zero, suc, _+_, _*_, _≤_, _<_}
 use mathlib.Core.Path.{_≡_}
 use mathlib.Core.List.{List, [], _∷_, _++_}
@@ -76,7 +77,7 @@ unfoldable pub runAfter : ℕ → Run → Run
 runAfter zero R = R
 runAfter (suc n) R = runAfter n (nextRun R)
 
--- what the program writes
+-- what the calls of the program give, one after the other
 abbrev pub written : List ℕ → List ℕ
 written B = ifAccepted (inputCode B) (linesOf (runIn B .rounds) (runIn B)) (bytesIn (refusedLine (inputCode B)))
 
