@@ -1,6 +1,6 @@
--- A pool on paper (document 02, Q-8). The promises of `open`, `next_line` and `refused_line` (simulation) are `inputCode`, `runIn`, `nextLine`, `nextRun` and so
--- on, which the statements name; that of `try_round` (trials) is below them. The program `simulate` opens what it reads, and writes the line of a refused input
--- or the run's lines. That it does is not proved, as no contract says what is read or written: `written` has the same calls in the same order.
+-- A pool on paper (document 02, Q-8). The promises of `open`, `next_line` and `refused_line` (simulation) are `inputCode`, `runIn`, `nextLine`, `nextRun` and
+-- so on, which the statements name; that of `try_round` (trials) is below them. The program `simulate` opens what it reads, and writes the line of a refused
+-- input or the run's lines. That it does is not proved, as no contract says what is read or written: `written` has the same calls in the same order.
 use Prim.Native.Nat.{ℕ, zero, suc, _+_, _*_, _≤_, _<_}
 use mathlib.Core.Path.{_≡_}
 use mathlib.Core.List.{List, [], _∷_, _++_}
