@@ -101,8 +101,8 @@ module _ (P : Plan) (m : ℕ) (cap : capFits P m ≡ true) where
         × (signedUploadAfter P m L (take L (drop (i * L) R)) (take L (drop (i * L) (keysOf P K L N))) out ≡ tab L (upload (poolOf P K) L W N i))
 
     -- "Where demand 2 gives the total, the shown one equals the true sum of the readings.": over demand 2's own hypotheses (Demands, TotalIsSum), of a plan
-    -- that 1 and 2 don't refuse. What the server gives out into any buffer of L symbols is shown into any buffer of L numbers, without a refusal, as the true sums.
-    -- That `signed_upload` writes the blocks which the frames carry is SignedUploadsAre
+    -- that 1 and 2 don't refuse. What the server gives out into any buffer of L symbols is shown into any buffer of L numbers, without a refusal, as the true
+    -- sums. That `signed_upload` writes the blocks which the frames carry is SignedUploadsAre
     abbrev pub ShownIsTrue : Type 0
     ShownIsTrue =
         (round : ℕ) → accepted ≡ planCode P → length R ≡ usersOf P * L → T (allInCap m R)
