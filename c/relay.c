@@ -34,7 +34,10 @@ struct device {
     size_t used;
 };
 
-/* The way to the server: one frame, with the cluster as its sender and the sums as its symbols. */
+/*
+ * The way to the server: one frame, with the cluster as its sender and the sums as its symbols. Whoever sends it keeps it until
+ * the server has counted it: a round that the relay has moved on from is gone here, and the server hears no round but its own.
+ */
 typedef void send_function(const uint8_t frame[FRAME]);
 
 static uint32_t get_low_first(const uint8_t *bytes) {
