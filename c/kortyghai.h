@@ -204,7 +204,8 @@ enum {
  */
 
 /*
- * The vet: is the plan good, and does its table hide what it has to hide?
+ * The vet: is the plan good, and does its table hide what it has to hide? Together with a coalition, a relay may learn
+ * nothing of the readings of all other users, and the server nothing but their total.
  *
  *     plan    U, V, T, R and q
  *     table   exactly U x V x R symbols
@@ -220,6 +221,10 @@ uint64_t kortyghai_vet(const uint32_t plan[KORTYGHAI_PLAN_NUMBERS], const uint32
  *     first, second   the two relays, the lower first; 0 and 0 for none
  *     looked          how many pairs of coalition and observer the vet looked at is put there, also where it refuses: all of them
  *                     where the plan is accepted, the place of the first that leaks, from 1, where it is refused by 7, else 0
+ *                     (by 19 too); the coalitions that are tried with the two relays are not among them
+ *
+ * With two clusters every pair leaks. kortyghai_make_table takes the rate that single relays need: of every U, V and T that it
+ * takes, tried at q 65,521 and not proved, its tables withstood a pair just where R is at least 2 x V + T, whatever the generator.
  *
  * Refuses, the first that holds: 1, 4 (table), 2, 3, 8 (the two are equal, reversed or outside the plan), 6, 7, 19.
  */
@@ -252,7 +257,7 @@ uint64_t kortyghai_rate(size_t clusters, size_t size, size_t limit, size_t *out)
  * The table maker: a key table of powers of a symbol, vetted.
  *
  *     plan        U, V, T and q; what stands in the place of R decides nothing, and R is put there
- *     generator   a symbol; one whose powers up to U x V - 1 all differ is a good choice, and another one is tried after 7
+ *     generator   a symbol; one whose powers up to U x V - 1 all differ is a good choice; after 7, call again with another
  *     table       exactly U x V x R symbols, R as kortyghai_rate says: the key table is put there
  *
  * Refuses, the first that holds: 1 (U, V or T), 2, 3 (generator), 10, 4 (table), 7 (the table that the generator gives
@@ -376,7 +381,8 @@ uint64_t kortyghai_unmask(uint32_t q, size_t length, const uint32_t *upload, siz
                           uint32_t *out, size_t out_len);
 
 /*
- * An upload of signed readings, of which a negative one w travels as q + w.
+ * An upload of signed readings, of which a negative one w travels as q + w. The cap stands in no record: users and server of a
+ * pool are told the same one.
  *
  *     plan       U, V, T, R and q, all of them in their bounds
  *     cap        the most that a reading is away from 0; 2 x U x V x cap is below q
@@ -407,7 +413,8 @@ uint64_t kortyghai_signed_unmask(const uint32_t plan[KORTYGHAI_PLAN_NUMBERS], ui
  * user's), 3 (in sums or held).
  *
  * Opens a round: reported and ahead become 0, and so do all 64 sums and all 64 held ones. What stood in them decides
- * nothing. Any number will do for the round, which the caller keeps.
+ * nothing. Any number will do for the round, which the caller keeps. A round that a user stays away from has no sums, since only
+ * all keys together sum to zero: to give it up, open the next, for which users send again what was held.
  *
  * Refuses, the first that holds: 1, 2, 9, 8 (cluster).
  */
@@ -421,6 +428,9 @@ uint64_t kortyghai_relay_open(const uint32_t counts[KORTYGHAI_RELAY_COUNTS], uin
  *     said     the round number that the frame has
  *     block    exactly L symbols, the user's upload
  *
+ * A frame that is late (14, said is below r) need not be sent again where the relay has come to r by moving on: it does so only
+ * after every user has reported.
+ *
  * Refuses, the first that holds: the state's 1, 2, 9, 8, 3, then 8 (sender), 14 (said is neither round's number), 4, 3, 11.
  */
 uint64_t kortyghai_relay_count(const uint32_t counts[KORTYGHAI_RELAY_COUNTS], uint32_t number, uint16_t *reported,
@@ -429,7 +439,8 @@ uint64_t kortyghai_relay_count(const uint32_t counts[KORTYGHAI_RELAY_COUNTS], ui
 
 /*
  * Moves on to round r + 1, once every user has reported in r: number becomes r + 1, reported and sums become what stood in
- * ahead and held, and these become 0. Ask for the sums before.
+ * ahead and held, and these become 0. Ask for the sums before, and keep them until the server has counted them: it hears no
+ * round but its own, and refuses those of a relay that is ahead by 14.
  *
  * Refuses, the first that holds: the state's 1, 2, 9, 8, 3, then 14 (r is 4,294,967,295), 12.
  */
@@ -462,7 +473,12 @@ uint64_t kortyghai_relay_save(const uint32_t counts[KORTYGHAI_RELAY_COUNTS], uin
                               uint8_t *out, size_t out_len, size_t *used);
 
 /*
- * Comes back from a save. Users then send again what they sent since, the same symbols under the same key.
+ * Comes back from a save. Users then send again what they sent since, the same symbols under the same key. A round that was full
+ * is full again: its sums are given a second time, and the server refuses them by 11, or by 14 where it has gone on.
+ *
+ * A save that was broken off has no marks at its end: 5, whatever the steps. Pass the bytes up to the end of the save before
+ * it. There is no checksum: bytes that were damaged but break no bound come back as they are. U, V, q, L and the cluster are
+ * the save's own: compare them with the plan in use.
  *
  *     saved   the used bytes alone, which end with the last save
  *     steps   how many saves back, 0 for the last
@@ -520,8 +536,8 @@ uint64_t kortyghai_show_totals(const uint32_t plan[KORTYGHAI_PLAN_NUMBERS], uint
 
 /*
  * A window over the last totals. Its state is its span, from 1 to 96; how many totals it holds; their sum; and 96 places
- * with the totals, oldest first, and 0 past them. 17, before all else, where the span is outside 1 to 96, or where no run
- * of totals leaves such a state.
+ * with the totals, oldest first, and 0 past them. Blocks of L positions need L windows. 17, before all else, where the span is
+ * outside 1 to 96, or where no run of totals leaves such a state.
  *
  * Opens a window: held, sum and all 96 places become 0. Refuses: 17 (span).
  */
@@ -784,7 +800,7 @@ static inline uint64_t kty_show_totals(const struct kortyghai_plan *plan, uint32
 
 /* ---- a relay ---- */
 
-/* Opens round `number` of the relay of a cluster. A refused call leaves the relay as it was. */
+/* Opens round `number` of the relay of a cluster. Of the plan, U, V and q are looked at. A refused call leaves the relay as it was. */
 static inline uint64_t kty_relay_open(struct kortyghai_relay *relay, const struct kortyghai_plan *plan, uint32_t length,
                                       uint32_t cluster, uint32_t number) {
     uint64_t answer;
@@ -828,7 +844,7 @@ static inline uint64_t kty_relay_restore(struct kortyghai_relay *relay, const ui
 
 /* ---- the server ---- */
 
-/* Opens round `number`. A refused call leaves the server as it was. */
+/* Opens round `number`. Of the plan, U, V and q are looked at. A refused call leaves the server as it was. */
 static inline uint64_t kty_server_open(struct kortyghai_server *server, const struct kortyghai_plan *plan, uint32_t length,
                                        uint32_t number) {
     uint64_t answer;
