@@ -81,7 +81,7 @@ pub use window::Window;
 /// A whole number below a plan's prime q, and q itself: from 2 to 4,294,967,291.
 pub type Symbol = u32;
 
-/// The most clusters, and the most users of a cluster.
+/// The most clusters, each with its relay.
 pub const MAX_CLUSTERS: usize = 8;
 
 /// The most users of a cluster.

@@ -63,6 +63,9 @@ impl RelayRound {
 
     /// A round in which nobody has reported: of the relay `cluster`, from 1, with blocks of `length` positions. Of the plan, U, V and q are looked at.
     ///
+    /// A round that a user stays away from has no sums, since only all keys together sum to zero: to give it up, open the next, for which users send again
+    /// what was held.
+    ///
     /// # Errors
     ///
     /// The first that holds: [`OutOfBounds`](Refusal::OutOfBounds), [`NotPrime`](Refusal::NotPrime), [`BadBlockLength`](Refusal::BadBlockLength),
@@ -80,6 +83,9 @@ impl RelayRound {
 
     /// Counts a frame: its sender, from 1 to V, the round number `said` in it, r or r + 1, and a block of exactly L symbols, which are added to the
     /// sums, or to the held ones. After round 4,294,967,295 there is no next.
+    ///
+    /// A frame that is late ([`OtherRound`](Refusal::OtherRound), `said` is below r) need not be sent again where the relay has come to r by
+    /// [`advance`](RelayRound::advance): it moves on only after every user has reported.
     ///
     /// # Errors
     ///
@@ -104,7 +110,8 @@ impl RelayRound {
     }
 
     /// Moves on to round r + 1, once every user of the cluster has reported: what is held becomes the round's own, and nothing is held further. Ask for
-    /// the sums before; they are gone afterwards.
+    /// the sums before; they are gone afterwards. Keep them until the server has counted them: it hears no round but its own, and refuses those of a relay
+    /// that is ahead.
     ///
     /// # Errors
     ///
@@ -170,7 +177,12 @@ impl RelayRound {
     /// The round of a save: the one that lies `steps` back from the end of the bytes, 0 for the last. Hand over the used bytes alone.
     ///
     /// A relay that restores a round and then counts again, in the same order, every frame since the save, and moves on as often, ends in the
-    /// state of one that never stopped. Users send again what they sent, the same symbols under the same key.
+    /// state of one that never stopped. Users send again what they sent, the same symbols under the same key. A round that was full is full again: its
+    /// sums are given a second time, and the server refuses them.
+    ///
+    /// A save that was broken off has no marks at its end, and is refused whatever the steps: hand over the bytes up to the end of the save before it. There
+    /// is no checksum: bytes that were damaged but break no bound come back as they are. U, V, q, L and the cluster are the save's own: compare them with the
+    /// plan in use.
     ///
     /// # Errors
     ///

@@ -7,7 +7,7 @@ use crate::{raw, Plan, Refusal, Symbol, MAX_LENGTH};
 /// The fields are open, and any numbers can stand in them: every call refuses a round that breaks a bound, before all else, by the first of
 /// [`OutOfBounds`](Refusal::OutOfBounds), [`NotPrime`](Refusal::NotPrime), [`BadBlockLength`](Refusal::BadBlockLength),
 /// [`UnknownNumber`](Refusal::UnknownNumber) (a bit that is no relay's), [`NotASymbol`](Refusal::NotASymbol) (a sum that is not below q, or one past the
-/// first L that is not 0). A server opens a new round where its last is done; it hears no next round.
+/// first L that is not 0). A server opens a new round where its last is done; it hears no next round, so that a relay keeps its sums until they are counted.
 ///
 /// ```
 /// use kortyghai::{Plan, ServerRound};

@@ -2,7 +2,8 @@
 
 use crate::{raw, Refusal, MAX_SPAN};
 
-/// The last totals shown, `span` of them, from 1 to 96, with their sum and the largest. Until so many are in, both cover those there are.
+/// The last totals shown, `span` of them, from 1 to 96, with their sum and the largest. Until so many are in, both cover those there are. Blocks of L
+/// positions need L windows.
 ///
 /// The fields are open, and any numbers can stand in them: every call refuses, before all else and with [`BadWindow`](Refusal::BadWindow), a window that
 /// no run of totals leaves.
