@@ -1,4 +1,4 @@
-//! A planner's desk work: a key table is made, vetted and written as a record, or it is said in words why not.
+//! A planner's work: a key table is made, vetted and written as a record, or it is said in words why not.
 //!
 //!     cargo run --release --example planner -- U V T q γ [FILE [RELAY RELAY]]
 //!     cargo run --release --example planner -- 5 2 1 65521 2 /tmp/new.plan 1 2
