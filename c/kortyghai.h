@@ -76,7 +76,8 @@ extern "C" {
 #define KORTYGHAI_MAX_TABLE 256        /* symbols of a key table, U x V x R; the reader of records is lent exactly so many */
 #define KORTYGHAI_MAX_RECORD 1036      /* bytes of a plan record */
 #define KORTYGHAI_MAX_BYTES 65535      /* bytes that kortyghai_vet_record takes */
-#define KORTYGHAI_MAX_SAVE 532         /* bytes of a saved round */
+#define KORTYGHAI_SAVE_BYTES(length) (20 + 8 * (length)) /* bytes of a saved round with blocks of so many positions, as a constant */
+#define KORTYGHAI_MAX_SAVE 532         /* the most bytes of a saved round */
 #define KORTYGHAI_MAX_POOLS 8          /* pools of a stock, from 1 */
 #define KORTYGHAI_MAX_SPAN 96          /* totals of a window, from 1 */
 #define KORTYGHAI_MIN_RING 2           /* K, users and relays of a cyclic network, from 2 */
@@ -223,8 +224,9 @@ uint64_t kortyghai_vet(const uint32_t plan[KORTYGHAI_PLAN_NUMBERS], const uint32
  *                     where the plan is accepted, the place of the first that leaks, from 1, where it is refused by 7, else 0
  *                     (by 19 too); the coalitions that are tried with the two relays are not among them
  *
- * With two clusters every pair leaks. kortyghai_make_table takes the rate that single relays need: of every U, V and T that it
- * takes, tried at q 65,521 and not proved, its tables withstood a pair just where R is at least 2 x V + T, whatever the generator.
+ * With two clusters every pair leaks. kortyghai_make_table takes the rate that single relays need. Its tables withstood a pair just
+ * where R is at least 2 x V + T: so it was seen, and is not proved, at q 65,521 for every U, V and T that it takes, with one to
+ * four generators each. So after 19 a table with more columns is wanted, and not another generator.
  *
  * Refuses, the first that holds: 1, 4 (table), 2, 3, 8 (the two are equal, reversed or outside the plan), 6, 7, 19.
  */
@@ -693,7 +695,7 @@ static inline size_t kty_record_size(const struct kortyghai_plan *plan) {
 
 /* How many bytes a save of a round with blocks of so many positions has. */
 static inline size_t kty_save_size(size_t length) {
-    return 20 + 8 * kty_room(length, KORTYGHAI_MAX_LENGTH);
+    return KORTYGHAI_SAVE_BYTES(kty_room(length, KORTYGHAI_MAX_LENGTH));
 }
 
 /* ---- the planner ---- */

@@ -16,7 +16,7 @@ enum {
     HEAD = 5,                           /* a frame: sender in one byte, round in four, .. */
     SYMBOL = 4,                         /* .. and so many bytes for each of L symbols; low bytes come first */
     FRAME = HEAD + LENGTH * SYMBOL,
-    SAVE = 20 + 8 * LENGTH,             /* kty_save_size(LENGTH), where C wants a constant */
+    SAVE = KORTYGHAI_SAVE_BYTES(LENGTH),
     BANK = 4 * SAVE,                    /* of flash: a few saves, to be erased together */
     BANKS = 2                           /* so that one holds the last save while the other is erased */
 };

@@ -214,8 +214,9 @@ impl KeyTable {
     /// The vet with a report, and with two relays under one lock, if there are such: whoever opens it sees the uploads of both clusters. The lower number
     /// comes first. With two clusters every pair leaks.
     ///
-    /// [`Counts::make_table`] takes the rate that single relays need: of every U, V and T that it takes, tried at q 65,521 and not proved, its tables
-    /// withstood a pair just where R is at least 2 × V + T, whatever the generator.
+    /// [`Counts::make_table`] takes the rate that single relays need. Its tables withstood a pair just where R is at least 2 × V + T: so it was seen, and
+    /// is not proved, at q 65,521 for every U, V and T that it takes, with one to four generators each. So after 19 a table with more columns is wanted, and
+    /// not another generator.
     ///
     /// The verdict's refusal is the first that holds: [`UnknownNumber`](Refusal::UnknownNumber) (the pair is equal, reversed or outside the plan),
     /// [`NotZeroSum`](Refusal::NotZeroSum), [`Leaks`](Refusal::Leaks), [`JointLeaks`](Refusal::JointLeaks).
