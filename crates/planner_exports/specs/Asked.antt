@@ -1,4 +1,4 @@
--- What a planner's numbers ask for: a prime, a pair of relays under one lock, and the five numbers of a plan.
+-- What a planner's numbers ask for: a prime, a pair of relays under one lock, and a table for U, V, T and q.
 use Prim.Native.Nat.{ℕ}
 use mathlib.Core.Bool.{Bool, not, cond, _&&_}
 use mathlib.Core.List.{List, [], _∷_}
@@ -7,7 +7,6 @@ use Rattle.refusals.specs.declared.Code.{Code}
 use Rattle.refusals.specs.Codes.{code}
 use Rattle.residues.specs.Primes.{isPrime}
 use Rattle.lists.specs.Lists.{at}
-use Rattle.plans.specs.declared.Plan.{Plan}
 use Rattle.vetting.specs.declared.Joint.{Joint}
 use Rattle.vetting.specs.declared.Joint.the-variants.{None, Relays}
 use Rattle.keys.specs.Maker.{rateOf, makerCode, makerTable}
@@ -19,10 +18,6 @@ primeChecks q = (not (isPrime q), code 2) ∷ []
 -- two zeros stand for no pair
 abbrev pub jointOf : ℕ → ℕ → Joint
 jointOf first second = cond (eqb first 0 && eqb second 0) None (Relays first second)
-
--- U, V, T, R and q
-abbrev pub countsOf : Plan → List ℕ
-countsOf P = P .clusters ∷ P .size ∷ P .limit ∷ P .rate ∷ P .q ∷ []
 
 -- the maker is lent U, V, T and q in a plan's places, whatever stands in that of R
 module _ (counts : List ℕ) (γ : ℕ) (table : List ℕ) where

@@ -18,8 +18,9 @@ use Rattle.vetting.specs.Vet.{leakCheck}
 use Rattle.keys.specs.Maker.{planOf, madeTable, makerCode, makerPlan, makerTable}
 use Rattle.keys.proofs.MakerLaws.{made-bounds, ownChecks}
 use Rattle.boundary.specs.Packed.{packed}
-use Rattle.planner_exports.specs.Asked.{countsOf, askedCode, madeCounts}
-use Rattle.planner_exports.proofs.SmallPlans.{Small, small}
+use Rattle.boundary.specs.Counts.{countsOf}
+use Rattle.boundary.proofs.SmallPlans.{Small, small}
+use Rattle.planner_exports.specs.Asked.{askedCode, madeCounts}
 use Rattle.planner_exports.proofs.plans_and_tables.kortyghai_make_table.Statement.{statement}
 use Rattle.planner_exports.proofs.plans_and_tables.kortyghai_make_table.Tie as tie
 

@@ -9,8 +9,8 @@ use Rattle.plans.proofs.PlanBounds.{bounds-known}
 use Rattle.records.specs.Records.{planRead, readCode}
 use Rattle.records.proofs.RecordChecks.{readable}
 use Rattle.boundary.specs.Packed.{packed}
-use Rattle.planner_exports.specs.Asked.{countsOf}
-use Rattle.planner_exports.proofs.SmallPlans.{Small, small}
+use Rattle.boundary.specs.Counts.{countsOf}
+use Rattle.boundary.proofs.SmallPlans.{Small, small}
 use Rattle.planner_exports.proofs.records_of_plans.kortyghai_read_record.Statement.{statement}
 use Rattle.planner_exports.proofs.records_of_plans.kortyghai_read_record.Tie as tie
 
