@@ -23,7 +23,7 @@
  * writes to what another has.
  *
  * WHAT IT NEEDS. memcpy, memmove and memset, and no other function or library; and stack: 2 KB for a user's calls, 5 KB for
- * a relay's and the server's, 30 KB for those that vet (c/README.md has each call, measured). It is code for x86-64.
+ * a relay's and the server's, 34 KB for those that vet (c/README.md has each call, measured). It is code for x86-64.
  *
  * SOURCE KEYS. Secrecy is proved for source keys whose symbols are drawn evenly from 0 to q - 1, each with equal chance and
  * apart from all others. Draw them fresh from a good random generator, without the bias that a remainder modulo q leaves,
@@ -61,9 +61,9 @@ extern "C" {
 #endif
 
 /* The version of this header and of the archive that it goes with. */
-#define KORTYGHAI_VERSION "0.2.0"
+#define KORTYGHAI_VERSION "0.3.0"
 #define KORTYGHAI_VERSION_MAJOR 0
-#define KORTYGHAI_VERSION_MINOR 2
+#define KORTYGHAI_VERSION_MINOR 3
 #define KORTYGHAI_VERSION_PATCH 0
 
 /* ==== bounds ==== */
@@ -75,7 +75,7 @@ extern "C" {
 #define KORTYGHAI_MAX_LENGTH 64        /* L, positions of a block, from 1; the sums of a round stand in 64 places */
 #define KORTYGHAI_MAX_TABLE 256        /* symbols of a key table, U x V x R; the reader of records is lent exactly so many */
 #define KORTYGHAI_MAX_RECORD 1036      /* bytes of a plan record */
-#define KORTYGHAI_MAX_BYTES 65535      /* bytes that kortyghai_vet_record takes */
+#define KORTYGHAI_MAX_BYTES 65535      /* bytes that kortyghai_vet_record and kortyghai_paper_open take */
 #define KORTYGHAI_SAVE_BYTES(length) (20 + 8 * (length)) /* bytes of a saved round with blocks of so many positions, as a constant */
 #define KORTYGHAI_MAX_SAVE 532         /* the most bytes of a saved round */
 #define KORTYGHAI_MAX_POOLS 8          /* pools of a stock, from 1 */
@@ -88,6 +88,9 @@ extern "C" {
 #define KORTYGHAI_MAX_WEIGHTS 320      /* K x d x (n + 1), its coefficients */
 #define KORTYGHAI_MAX_Q 4294967291u    /* the largest prime of 32 bits; q is a prime from 2 on */
 #define KORTYGHAI_LAST_ROUND 4294967295u /* after this round there is no next */
+#define KORTYGHAI_MAX_ROUNDS 10000     /* rounds of a run on paper, from 1 */
+#define KORTYGHAI_PAPER_HEAD 8         /* bytes before the record: the cap and the number of rounds */
+#define KORTYGHAI_MAX_LINE 56          /* bytes of a line that such a run writes */
 
 /* ==== answers ==== */
 
@@ -111,7 +114,7 @@ enum kortyghai_refusal {
     KORTYGHAI_OUTSIDE_CAP = 15,      /* a signed reading outside the cap */
     KORTYGHAI_BAD_CAP = 16,          /* the cap is 0, or 2 x U x V x cap is not below q */
     KORTYGHAI_BAD_WINDOW = 17,       /* a span outside 1 to 96, or a window that no run of totals leaves */
-    KORTYGHAI_BAD_ROUND_COUNT = 18,  /* rounds of a trial outside 1 to 10,000; no entry of the archive answers it */
+    KORTYGHAI_BAD_ROUND_COUNT = 18,  /* rounds of a run on paper outside 1 to 10,000, or its number is none of them */
     KORTYGHAI_JOINT_LEAKS = 19,      /* two relays under one lock leak; first: the coalition of least number */
     KORTYGHAI_PAST_LIMIT = 20,       /* a draw would pass its pool's limit */
     KORTYGHAI_BAD_STOCK = 21,        /* a reserve above its limit, reserves above the stream, or a stock that no draws leave */
@@ -153,7 +156,7 @@ static inline const char *kortyghai_refusal_text(unsigned number) {
         "a signed reading is outside the cap",
         "the cap is 0 or too large for the plan's prime",
         "the window's span is not from 1 to 96, or the window is damaged",
-        "the number of rounds is not from 1 to 10,000",
+        "the number of rounds is not from 1 to 10,000, or the run is over",
         "the two relays together leak to this coalition",
         "the draw would pass the pool's limit",
         "the stock's reserves don't fit, or the stock is damaged",
@@ -194,6 +197,15 @@ enum {
     KORTYGHAI_RING_RATE,  /* R, source symbols, from 1 to 16 */
     KORTYGHAI_RING_Q,     /* q, a prime */
     KORTYGHAI_RING_NUMBERS
+};
+
+/* A run on paper, beside its plan and its key table. */
+enum {
+    KORTYGHAI_PAPER_CAP,    /* the most that a reading is */
+    KORTYGHAI_PAPER_ROUNDS, /* how many rounds there are, from 1 to 10,000 */
+    KORTYGHAI_PAPER_NUMBER, /* the next round's, from 1 */
+    KORTYGHAI_PAPER_STATE,  /* the generator's, before that round; any number will do */
+    KORTYGHAI_PAPER_NUMBERS
 };
 
 /* ==== the entries ==== */
@@ -595,6 +607,41 @@ uint64_t kortyghai_network_decode(const uint32_t counts[KORTYGHAI_RING_NUMBERS],
                                   size_t sums_len, uint32_t *out, size_t out_len);
 
 /*
+ * A POOL ON PAPER: rounds of a plan with keys and readings from a small generator, to see the numbers before a meter is
+ * hung. It starts from state 1; the state becomes state x 1,103,515,245 + 12,345 modulo 2^32, and the value drawn is
+ * state / 65,536 modulo 32,768. A round draws R source symbols, a value modulo q each; then the users' readings in index
+ * order, a value modulo cap + 1 each; then who sends next, a value modulo the number of users still owing, counted from 0
+ * in index order. Such keys hide nothing.
+ *
+ * Opens a run from the bytes that the program `simulate` reads: the cap in four bytes and the number of rounds in four, low
+ * byte first, and then a plan record, before which other bytes may stand. It vets the plan, once.
+ *
+ *     plan    U, V, T, R and q are put there
+ *     table   256 places: the key table is put there, and 0 past it
+ *     run     the cap, the number of rounds, 1 for the next round and 1 for the generator's state are put there
+ *
+ * Refuses, the first that holds: 4 (more than 65,535 bytes, or under eight), 18, then as the reader of records 5, 1, 4, 2,
+ * 3, then 16, then as the vet 6, 7.
+ */
+uint64_t kortyghai_paper_open(const uint8_t *bytes, size_t bytes_len, uint32_t plan[KORTYGHAI_PLAN_NUMBERS],
+                              uint32_t table[KORTYGHAI_MAX_TABLE], uint32_t run[KORTYGHAI_PAPER_NUMBERS]);
+
+/*
+ * The next round and its line of text: the round's number, the index of the user who sends last, relay 1's sum, the sum of
+ * the readings alone, and the total that the server shows, with single spaces and a line end. There is no 0 byte behind it
+ * where all 56 places are used.
+ *
+ *     run      its round's number goes up by 1, and the generator's state goes on
+ *     line     56 places: the text is put there, and 0 past it
+ *     length   how many bytes it has is put there
+ *
+ * A run that is handed over may be anything; the table is held to be one of symbols and not vetted again. Refuses, the first
+ * that holds: 18 (rounds outside 1 to 10,000, or the number is none of them, as after the last round), 1, 2, 3, 16.
+ */
+uint64_t kortyghai_paper_line(const uint32_t plan[KORTYGHAI_PLAN_NUMBERS], const uint32_t table[KORTYGHAI_MAX_TABLE],
+                              uint32_t run[KORTYGHAI_PAPER_NUMBERS], uint8_t line[KORTYGHAI_MAX_LINE], size_t *length);
+
+/*
  * ==== structs, and the same functions over them ====
  *
  * The structs are C's own: the functions pass addresses of their members, so that the archive assumes nothing of their
@@ -661,6 +708,12 @@ struct kortyghai_network {
     uint32_t weights[KORTYGHAI_MAX_WEIGHTS];
 };
 
+/* A run on paper: a plan and its key table with 0 past it, and where the run stands. */
+struct kortyghai_paper {
+    struct kortyghai_key_table table;
+    uint32_t numbers[KORTYGHAI_PAPER_NUMBERS]; /* KORTYGHAI_PAPER_CAP to KORTYGHAI_PAPER_STATE */
+};
+
 KORTYGHAI_STATIC_ASSERT(sizeof(size_t) == 8, "the archive's lengths have 64 bits");
 KORTYGHAI_STATIC_ASSERT(sizeof(void *) == 8, "the archive's addresses have 64 bits");
 KORTYGHAI_STATIC_ASSERT(sizeof(struct kortyghai_plan) == 20, "five numbers");
@@ -672,6 +725,7 @@ KORTYGHAI_STATIC_ASSERT(sizeof(struct kortyghai_server) == 16 + 4 + 256 + 4, "co
 KORTYGHAI_STATIC_ASSERT(sizeof(struct kortyghai_window) == 24 + 384, "span, held, sum and 96 places");
 KORTYGHAI_STATIC_ASSERT(sizeof(struct kortyghai_ring) == 20, "five numbers");
 KORTYGHAI_STATIC_ASSERT(sizeof(struct kortyghai_network) == 20 + 512 + 1280, "a ring, its table and its coefficients");
+KORTYGHAI_STATIC_ASSERT(sizeof(struct kortyghai_paper) == 20 + 1024 + 16, "a plan, 256 symbols and four numbers");
 
 /* A length that a buffer of so many places has room for, and 0 for a longer one, which is refused before any length is looked at. */
 static inline size_t kty_room(uint64_t wanted, size_t most) {
@@ -930,6 +984,16 @@ static inline uint64_t kty_network_decode(const struct kortyghai_network *networ
                                     kty_ring_weights(&network->ring), reported, sums,
                                     kty_room(numbers[KORTYGHAI_RING_SIZE], KORTYGHAI_MAX_RING), out,
                                     kty_room(numbers[KORTYGHAI_RING_PARTS], KORTYGHAI_MAX_PARTS));
+}
+
+/* ---- a pool on paper ---- */
+
+static inline uint64_t kty_paper_open(struct kortyghai_paper *paper, const uint8_t *bytes, size_t bytes_len) {
+    return kortyghai_paper_open(bytes, bytes_len, paper->table.plan.numbers, paper->table.symbols, paper->numbers);
+}
+
+static inline uint64_t kty_paper_line(struct kortyghai_paper *paper, uint8_t line[KORTYGHAI_MAX_LINE], size_t *length) {
+    return kortyghai_paper_line(paper->table.plan.numbers, paper->table.symbols, paper->numbers, line, length);
 }
 
 #ifdef __cplusplus

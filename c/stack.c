@@ -30,6 +30,8 @@ static int32_t readings[KORTYGHAI_MAX_LENGTH], shown[KORTYGHAI_MAX_LENGTH];
 static size_t used, rate, many[KORTYGHAI_MAX_POOLS] = {9, 9, 9, 9, 9, 9, 9, 9};
 static uint32_t looked, symbol;
 static int64_t sum;
+static uint8_t runs[4][KORTYGHAI_PAPER_HEAD + KORTYGHAI_MAX_RECORD], line[KORTYGHAI_MAX_LINE];
+static struct kortyghai_paper paper, papers[4];
 static uint64_t answers; /* all answers together, so that no call can be left out */
 
 static const struct kortyghai_plan plans[4] = {
@@ -54,6 +56,10 @@ static void fill(void) {
         tables[i].plan = plans[i];
         if (kty_make_table(&tables[i], 3) != 0) printf("no table %zu\n", i);
         kty_write_record(&tables[i], records[i], kty_record_size(&tables[i].plan));
+        runs[i][0] = 9; /* the cap */
+        runs[i][4] = 9; /* the rounds */
+        memcpy(runs[i] + KORTYGHAI_PAPER_HEAD, records[i], sizeof records[i]);
+        if (kty_paper_open(&papers[i], runs[i], KORTYGHAI_PAPER_HEAD + kty_record_size(&tables[i].plan)) != 0) printf("no run %zu\n", i);
     }
     kty_relay_open(&relay, &tables[2].plan, KORTYGHAI_MAX_LENGTH, 1, 1);
     kty_server_open(&server, &tables[0].plan, KORTYGHAI_MAX_LENGTH, 1);
@@ -212,6 +218,14 @@ static void network_decode(void) {
     for (size_t n = 0; n < 2; n++) answers += kty_network_decode(&networks[n], 255, block, out);
 }
 
+static void paper_open(void) {
+    for (size_t i = 0; i < 4; i++) answers += kty_paper_open(&paper, runs[i], KORTYGHAI_PAPER_HEAD + kty_record_size(&tables[i].plan));
+}
+
+static void paper_line(void) {
+    for (size_t i = 0; i < 4; i++) answers += kty_paper_line(&papers[i], line, &used);
+}
+
 /* ---- measuring ---- */
 
 static void run_job(void) {
@@ -255,7 +269,8 @@ static const struct entry entries[] = {
     {"relay_save", relay_save}, {"relay_restore", relay_restore}, {"relay_advance", relay_advance}, {"server_open", server_open},
     {"server_count", server_count}, {"server_give", server_give}, {"show_totals", show_totals}, {"window_open", window_open},
     {"window_push", window_push}, {"window_sum", window_sum}, {"window_largest", window_largest}, {"network_vet", network_vet},
-    {"network_upload", network_upload}, {"network_sum", network_sum}, {"network_decode", network_decode}};
+    {"network_upload", network_upload}, {"network_sum", network_sum}, {"network_decode", network_decode}, {"paper_open", paper_open},
+    {"paper_line", paper_line}};
 
 int main(void) {
     size_t around;

@@ -84,7 +84,7 @@ static const char *const names[ENTRIES] = {
     "check_prime", "vet", "vet_joint", "count_pairs", "rate", "make_table", "vet_record", "read_record", "write_record", "derive_keys", "draw", "stock_open",
     "stock_draw", "upload", "unmask", "signed_upload", "signed_unmask", "show_totals", "relay_open", "relay_count", "relay_advance",
     "relay_give", "relay_save", "relay_restore", "server_open", "server_count", "server_give", "window_open", "window_push", "window_sum",
-    "window_largest", "network_vet", "network_upload", "network_sum", "network_decode"};
+    "window_largest", "network_vet", "network_upload", "network_sum", "network_decode", "paper_open", "paper_line"};
 
 uint64_t last_answer;
 

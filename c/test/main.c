@@ -23,6 +23,7 @@ static void try_all(void) {
     try_save();
     if (once_in(4)) try_relay_day();
     if (once_in(4)) try_network();
+    if (once_in(8)) try_paper();
     if (once_in(8)) try_record();
     if (once_in(16)) try_planner();
     if (once_in(16)) try_keys();
@@ -38,6 +39,7 @@ static void try_thousands(void) {
         try_record();
         try_keys();
         try_network();
+        try_paper();
     }
 }
 

@@ -93,5 +93,9 @@ uint64_t model_network_upload(const uint32_t counts[KORTYGHAI_RING_NUMBERS], con
 uint64_t model_network_sum(const uint32_t counts[KORTYGHAI_RING_NUMBERS], const uint32_t *uploads, size_t uploads_len, uint32_t *out);
 uint64_t model_network_decode(const uint32_t counts[KORTYGHAI_RING_NUMBERS], const uint32_t *table, size_t table_len, const uint32_t *weights,
                               size_t weights_len, uint16_t reported, const uint32_t *sums, size_t sums_len, uint32_t *out, size_t out_len);
+uint64_t model_paper_open(const uint8_t *bytes, size_t bytes_len, uint32_t plan[KORTYGHAI_PLAN_NUMBERS], uint32_t table[KORTYGHAI_MAX_TABLE],
+                          uint32_t run[KORTYGHAI_PAPER_NUMBERS]);
+uint64_t model_paper_line(const uint32_t plan[KORTYGHAI_PLAN_NUMBERS], const uint32_t table[KORTYGHAI_MAX_TABLE],
+                          uint32_t run[KORTYGHAI_PAPER_NUMBERS], uint8_t line[KORTYGHAI_MAX_LINE], size_t *length);
 
 #endif

@@ -1,6 +1,6 @@
 /*
  * Worked out by hand, with no model: the small pool of the scope paper (2 clusters of 2 users, coalitions of at most 1, q 5), the same with
- * the largest prime of 32 bits, records of both kinds, a round, a save, a stock, a window and a cyclic network of two.
+ * the largest prime of 32 bits, records of both kinds, a round, a save, a stock, a window, a cyclic network of two and a run on paper.
  */
 #include "harness.h"
 
@@ -207,6 +207,40 @@ static void network(void) {
     CHECK(is(kty_network_decode(&net, 3, sums, total), 0, 0, 0) && total[0] == 2);
 }
 
+/* The small pool's shape modulo 31, on paper: the first value from state 1 is 16,838, and two rounds are followed by hand. */
+static void paper(void) {
+    static uint8_t bytes[KORTYGHAI_PAPER_HEAD + 34] = {
+        0x03, 0x00, 0x00, 0x00, 0x02, 0x00, 0x00, 0x00, 0x02, 0x02, 0x01, 0x03, 0x1F, 0x00, 0x01, 0x00, 0x00, 0x00, 0x00, 0x00, 0x01,
+        0x00, 0x03, 0x00, 0x09, 0x00, 0x01, 0x00, 0x09, 0x00, 0x13, 0x00, 0x1C, 0x00, 0x13, 0x00, 0x03, 0x00, 0x22, 0x00, 0x4B, 0x50};
+    static uint8_t many[KORTYGHAI_MAX_BYTES + 1];
+    struct kortyghai_paper run, before;
+    uint8_t line[KORTYGHAI_MAX_LINE];
+    size_t length = 77;
+    memset(&run, 0, sizeof run);
+    CHECK(is(kty_paper_line(&run, line, &length), 18, 0, 0) && length == 77);
+    CHECK(is(kty_paper_open(&run, bytes, 7), 4, 0, 0) && is(kty_paper_open(&run, bytes, 8), 5, 0, 0));
+    CHECK(is(kty_paper_open(&run, bytes, sizeof bytes), 0, 0, 0) && run.numbers[KORTYGHAI_PAPER_CAP] == 3);
+    CHECK(run.numbers[KORTYGHAI_PAPER_ROUNDS] == 2 && run.numbers[KORTYGHAI_PAPER_NUMBER] == 1 && run.numbers[KORTYGHAI_PAPER_STATE] == 1);
+    CHECK(run.table.plan.numbers[KORTYGHAI_PLAN_Q] == 31 && run.table.symbols[0] == 1 && run.table.symbols[11] == 3 && run.table.symbols[12] == 0);
+    memset(line, 0xA5, sizeof line);
+    CHECK(is(kty_paper_line(&run, line, &length), 0, 0, 0) && length == 13 && memcmp(line, "1 2 24 11 11\n\0", 14) == 0 && line[55] == 0);
+    CHECK(is(kty_paper_line(&run, line, &length), 0, 0, 0) && length == 10 && memcmp(line, "2 3 6 8 8\n\0\0\0", 13) == 0);
+    before = run;
+    CHECK(is(kty_paper_line(&run, line, &length), 18, 0, 0) && length == 10 && memcmp(&run, &before, sizeof run) == 0);
+    bytes[0] = 4; /* 2 x 4 x 4 is not below 31 */
+    CHECK(is(kty_paper_open(&run, bytes, sizeof bytes), 16, 0, 0) && memcmp(&run, &before, sizeof run) == 0);
+    bytes[10] = 2; /* T: the cap comes before the vet's 7 */
+    CHECK(is(kty_paper_open(&run, bytes, sizeof bytes), 16, 0, 0));
+    bytes[0] = 3;
+    CHECK(is(kty_paper_open(&run, bytes, sizeof bytes), 7, 3, 2) && memcmp(&run, &before, sizeof run) == 0);
+    bytes[10] = 1;
+    memcpy(many, bytes, 8);
+    memcpy(many + KORTYGHAI_MAX_BYTES - 34, bytes + 8, 34);
+    CHECK(is(kty_paper_open(&run, many, KORTYGHAI_MAX_BYTES), 0, 0, 0) && run.numbers[KORTYGHAI_PAPER_NUMBER] == 1);
+    memcpy(many + 1 + KORTYGHAI_MAX_BYTES - 34, bytes + 8, 34);
+    CHECK(is(kty_paper_open(&run, many, KORTYGHAI_MAX_BYTES + 1), 4, 0, 0));
+}
+
 /* Structs of nothing but zeros are refused. */
 static void zeros(void) {
     static const struct kortyghai_key_table table;
@@ -244,6 +278,7 @@ void worked_by_hand(void) {
     server_and_window();
     stock();
     network();
+    paper();
     zeros();
     texts();
 }
