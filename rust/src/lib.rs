@@ -14,6 +14,7 @@
 //! | a relay | [`RelayRound`]: frames, moving on, sums, saves |
 //! | the server | [`ServerRound`], [`Plan::show_totals`], [`Window`] |
 //! | users on several relays | [`Network`] |
+//! | whoever tries a plan out | [`PaperRun`]: a pool on paper, a line a round |
 //!
 //! ```
 //! use kortyghai::{Counts, Refusal};
@@ -59,6 +60,7 @@ extern crate std;
 
 mod blocks;
 mod network;
+mod paper;
 mod plan;
 // open to the programs that compare whole answers
 #[doc(hidden)]
@@ -71,6 +73,7 @@ mod window;
 
 pub use blocks::{unmask, upload};
 pub use network::{Network, Ring};
+pub use paper::{PaperLine, PaperRun};
 pub use plan::{check_prime, vet_record, Counts, KeyTable, Plan, Report};
 pub use refusal::Refusal;
 pub use relay::RelayRound;
@@ -114,11 +117,14 @@ pub const MAX_RING: usize = 8;
 /// The most symbols of a reading in a [`Network`].
 pub const MAX_PARTS: usize = 4;
 
-/// The most bytes that [`vet_record`] takes.
+/// The most bytes that [`vet_record`] and [`PaperRun::open`] take.
 pub const MAX_BYTES: usize = 65_535;
 
 /// The most bytes of a plan's record.
 pub const MAX_RECORD: usize = 12 + 4 * MAX_TABLE;
+
+/// The most bytes of a [`PaperLine`].
+pub const MAX_LINE: usize = 56;
 
 /// The most bytes of a save.
 pub const MAX_SAVE: usize = 20 + 8 * MAX_LENGTH;

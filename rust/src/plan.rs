@@ -89,7 +89,7 @@ impl Plan {
         [self.clusters, self.size, self.limit, self.rate, self.q]
     }
 
-    fn of([clusters, size, limit, rate, q]: raw::PlanNumbers) -> Plan {
+    pub(crate) fn of([clusters, size, limit, rate, q]: raw::PlanNumbers) -> Plan {
         Plan { clusters, size, limit, rate, q }
     }
 

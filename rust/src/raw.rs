@@ -4,7 +4,7 @@
 //! Every function takes every number: what is asked of a caller is that an address has as many elements behind it as the length says, and that
 //! nothing that a call writes overlaps anything else that is passed to it.
 
-use crate::{Symbol, MAX_LENGTH, MAX_POOLS, MAX_SPAN};
+use crate::{Symbol, MAX_LENGTH, MAX_LINE, MAX_POOLS, MAX_SPAN, MAX_TABLE};
 
 /// U, V, T, R and q of a plan.
 pub type PlanNumbers = [Symbol; 5];
@@ -26,6 +26,15 @@ pub type Pools = [usize; MAX_POOLS];
 
 /// The places of a window.
 pub type Totals = [i32; MAX_SPAN];
+
+/// The cap, the rounds, the next one's number and the generator's state of a run on paper.
+pub type RunNumbers = [u32; 4];
+
+/// The key table of such a run, with 0 past it.
+pub type Table = [Symbol; MAX_TABLE];
+
+/// The places of its line.
+pub type Places = [u8; MAX_LINE];
 
 // for a planner
 #[allow(missing_docs)]
@@ -264,5 +273,18 @@ extern "C" {
         arrived: usize,
         out: *mut Symbol,
         lent: usize,
+    ) -> u64;
+}
+
+// for a pool on paper
+#[allow(missing_docs)]
+extern "C" {
+    pub fn kortyghai_paper_open(bytes: *const u8, given: usize, plan: *mut PlanNumbers, table: *mut Table, run: *mut RunNumbers) -> u64;
+    pub fn kortyghai_paper_line(
+        plan: *const PlanNumbers,
+        table: *const Table,
+        run: *mut RunNumbers,
+        line: *mut Places,
+        length: *mut usize,
     ) -> u64;
 }

@@ -50,7 +50,7 @@ pub enum Refusal {
     BadCap,
     /// 17: a window's span is not from 1 to 96, or no run of totals leaves such a window.
     BadWindow,
-    /// 18: the number of rounds on paper is not from 1 to 10,000.
+    /// 18: the number of rounds on paper is not from 1 to 10,000, or the run is over.
     BadRounds,
     /// 19: two relays under one lock leak together.
     JointLeaks {
@@ -177,7 +177,7 @@ impl Refusal {
             Refusal::OutsideCap => "a reading is outside the cap",
             Refusal::BadCap => "the cap is 0, or too large for q",
             Refusal::BadWindow => "the window's span is not from 1 to 96, or the window is damaged",
-            Refusal::BadRounds => "the number of rounds is not from 1 to 10,000",
+            Refusal::BadRounds => "the number of rounds is not from 1 to 10,000, or the run is over",
             Refusal::JointLeaks { .. } => "two relays under one lock leak",
             Refusal::PastLimit => "the draw would pass the pool's limit",
             Refusal::BadStock => "a reserve is above its limit, the reserves are above the stream, or the stock is damaged",

@@ -511,3 +511,43 @@ fn trailers_refused() {
     says(&other(&WIDE_RECORD, 8, &MAX_Q.to_le_bytes()), Refusal::NotASymbol);
     says(&other(&WIDE_RECORD, 4, &65_537_u32.to_le_bytes()), Refusal::NotASymbol);
 }
+
+/// The small pool's shape modulo 31: two rounds followed by hand, from the values 16,838, 5,758, 10,113 and so on.
+#[test]
+fn two_rounds_on_paper() {
+    let table = SMALL.counts().make_table(31, 3).unwrap();
+    let mut run = PaperRun::new(&table, 3, 2).unwrap();
+    assert_eq!((run.plan, &run.table[..12], run.table[12]), (*table.plan(), table.symbols(), 0));
+    assert_eq!((run.cap, run.rounds, run.number, run.state, run.is_over()), (3, 2, 1, 1, false));
+    assert_eq!(run.next_line().unwrap().as_bytes(), b"1 2 24 11 11\n");
+    let second = run.next_line().unwrap();
+    assert_eq!((second.as_str(), second.to_string().len()), ("2 3 6 8 8\n", 10));
+    let over = run.clone();
+    assert_eq!((run.next_line(), &run, run.is_over()), (Err(Refusal::BadRounds), &over, true));
+    // what is no run is refused, and stays
+    for (other, refusal) in [
+        (PaperRun { number: 0, ..over.clone() }, Refusal::BadRounds),
+        (PaperRun { rounds: 10_001, number: 1, ..over.clone() }, Refusal::BadRounds),
+        (PaperRun { number: 1, plan: Plan { size: 9, ..over.plan }, ..over.clone() }, Refusal::OutOfBounds),
+        (PaperRun { number: 1, plan: Plan { q: 33, ..over.plan }, ..over.clone() }, Refusal::NotPrime),
+        (PaperRun { number: 1, plan: Plan { q: 23, ..over.plan }, ..over.clone() }, Refusal::NotASymbol),
+        (PaperRun { number: 1, cap: 4, ..over.clone() }, Refusal::BadCap),
+    ] {
+        let mut left = other.clone();
+        assert_eq!((left.next_line(), left), (Err(refusal), other));
+    }
+}
+
+#[test]
+fn runs_on_paper_refused() {
+    let table = SMALL.counts().make_table(31, 3).unwrap();
+    assert_eq!(PaperRun::new(&table, 4, 2), Err(Refusal::BadCap));
+    assert_eq!(PaperRun::new(&table, 0, 2), Err(Refusal::BadCap));
+    assert_eq!((PaperRun::new(&table, 3, 0), PaperRun::new(&table, 0, 10_001)), (Err(Refusal::BadRounds), Err(Refusal::BadRounds)));
+    let wider = KeyTable::new(Plan { limit: 2, ..*table.plan() }, table.symbols()).unwrap();
+    assert_eq!(PaperRun::new(&wider, 3, 2), Err(Refusal::Leaks { coalition: 3, observer: 2 }));
+    assert_eq!(PaperRun::new(&wider, 4, 2), Err(Refusal::BadCap));
+    assert_eq!((PaperRun::open(&[]), PaperRun::open(&[1; 7])), (Err(Refusal::WrongLength), Err(Refusal::WrongLength)));
+    assert_eq!(PaperRun::open(&[3, 0, 0, 0, 2, 0, 0, 0]), Err(Refusal::BadTrailer));
+    assert_eq!(PaperRun::open(&vec![1; MAX_BYTES + 1]), Err(Refusal::WrongLength));
+}

@@ -1,10 +1,14 @@
 //! Throws seeded numbers at every entry of the archive but those of `hostile` and `hostile_frames`, and compares each answer and all lent memory
-//! with models of its own: tables and keys, uploads and totals, streams and stocks, server rounds, windows, saves, and cyclic networks. Every call is made
-//! through the safe crate too. `hostile_states [COUNT] [SEED]`; a million and 7 where nothing is said. The exit status is 1 where one differs.
+//! with models of its own: tables and keys, uploads and totals, streams and stocks, server rounds, windows, saves, cyclic networks, and pools on paper. Every
+//! call is made through the safe crate too. `hostile_states [COUNT] [SEED]`; a million and 7 where nothing is said. The exit status is 1 where one differs.
 
 mod blocks;
 mod field;
 mod networks;
+mod paper;
+#[allow(dead_code)]
+#[path = "../hostile/reader.rs"]
+mod reader;
 mod saves;
 #[path = "../hostile/seeded.rs"]
 mod seeded;
@@ -22,8 +26,16 @@ use tally::Tally;
 type Subject = fn(&mut Seeded, usize, &mut Tally);
 
 /// Each with its share of a hundred.
-const SUBJECTS: [(Subject, usize); 7] =
-    [(tables::run, 8), (blocks::run, 20), (streams::run, 20), (servers::run, 15), (windows::run, 15), (saves::run, 16), (networks::run, 6)];
+const SUBJECTS: [(Subject, usize); 8] = [
+    (tables::run, 8),
+    (blocks::run, 18),
+    (streams::run, 18),
+    (servers::run, 15),
+    (windows::run, 15),
+    (saves::run, 16),
+    (networks::run, 6),
+    (paper::run, 4),
+];
 
 fn all(s: &mut Seeded, count: usize) -> Tally {
     let mut tally = Tally::default();

@@ -94,7 +94,7 @@ fn walked(plan: &Plan, table: &[Symbol]) -> (Verdict, u32) {
 }
 
 /// "A pair that is equal, reversed or outside the plan is 8, before 6. 19 when the pair leaks, after 7"
-fn vetted(plan: &Plan, table: &[Symbol], pair: Option<(usize, usize)>) -> (Verdict, u32) {
+pub fn vetted(plan: &Plan, table: &[Symbol], pair: Option<(usize, usize)>) -> (Verdict, u32) {
     let before = of_table(plan, table)
         .and_then(|()| first(&[(8, pair.is_some_and(|(a, b)| a < 1 || a >= b || b > plan.clusters as usize))]))
         .and_then(|()| not_zero_sum(plan, table).map_or(Ok(()), Err));
@@ -107,7 +107,7 @@ fn vetted(plan: &Plan, table: &[Symbol], pair: Option<(usize, usize)>) -> (Verdi
 }
 
 /// A plan of few users with a table, most with rows that sum to zero; many leak.
-fn some_table(s: &mut Seeded) -> (Plan, Vec<Symbol>) {
+pub fn some_table(s: &mut Seeded) -> (Plan, Vec<Symbol>) {
     let few = s.one_of(&[(1, 1), (1, 2), (2, 1), (3, 1), (2, 2), (2, 2), (4, 1), (3, 2), (2, 3), (5, 1), (6, 1)]);
     // seldom as many users and columns as there can be
     let many = s.below(150) == 0;

@@ -95,8 +95,13 @@ const ENTRIES: [(&str, &[u16]); 27] = [
 ];
 
 /// The rest of them.
-const NETWORK_ENTRIES: [(&str, &[u16]); 3] =
-    [("network_upload", &[0, 1, 2, 3, 4, 8, 22]), ("network_sum", &[0, 1, 2, 3, 4, 22]), ("network_decode", &[0, 1, 2, 3, 4, 8, 22, 23])];
+const OTHER_ENTRIES: [(&str, &[u16]); 5] = [
+    ("network_upload", &[0, 1, 2, 3, 4, 8, 22]),
+    ("network_sum", &[0, 1, 2, 3, 4, 22]),
+    ("network_decode", &[0, 1, 2, 3, 4, 8, 22, 23]),
+    ("paper_open", &[0, 1, 2, 3, 4, 5, 6, 7, 16, 18]),
+    ("paper_line", &[0, 1, 2, 3, 16, 18]),
+];
 
 #[derive(Default)]
 pub struct Tally {
@@ -145,7 +150,7 @@ impl Tally {
     }
 
     fn entries() -> impl Iterator<Item = (&'static str, &'static [u16])> {
-        ENTRIES.into_iter().chain(NETWORK_ENTRIES)
+        ENTRIES.into_iter().chain(OTHER_ENTRIES)
     }
 
     /// The numbers that were never answered, and entries that were called fewer than a thousand times.
