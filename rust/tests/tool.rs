@@ -116,17 +116,84 @@ fn show_prints_the_plan() {
     assert!(err.starts_with("kortyghai: refused (5): "), "{err}");
 }
 
+/// A file of the repository.
+fn stored(name: &str) -> Vec<u8> {
+    std::fs::read(PathBuf::from(env!("CARGO_MANIFEST_DIR")).join("../crates").join(name)).unwrap()
+}
+
+/// The tool on what the program `simulate` reads: cap and rounds, four bytes each, and a record.
+fn simulated(input: &[u8]) -> (i32, String, String) {
+    let number = |place: usize| u32::from_le_bytes(input[place..place + 4].try_into().unwrap()).to_string();
+    told(&["simulate", "-", &number(0), &number(4)], &input[8..])
+}
+
+/// The lines of the program `simulate`, ten thousand of them.
+#[test]
+fn simulate_prints_what_the_program_does() {
+    let wanted = String::from_utf8(stored("simulate/stdout")).unwrap();
+    assert_eq!(wanted.lines().count(), 10_000);
+    assert!(simulated(&stored("simulate/stdin")) == (0, wanted, String::new()));
+    let (status, out, err) = told(&["simulate", &example("made-8-2-1.plan"), "2047", "3"], &[]);
+    assert_eq!((status, out.lines().count(), &err[..]), (0, 3, ""));
+    // of small.plan no cap is small enough
+    let (status, out, err) = told(&["simulate", &example("small.plan"), "1", "3"], &[]);
+    assert_eq!((status, &out[..], &err[..]), (1, "", "kortyghai: refused (16): the cap is 0, or too large for q\n"));
+}
+
+/// All stored inputs of the program, accepted and refused. Those under eight bytes have no cap and no rounds, and can't be asked of the tool.
+#[test]
+fn simulate_answers_stored_cases() {
+    let (names, texts) = (stored("simulate_cases/args"), stored("simulate_cases/stdout"));
+    let (names, texts) = (String::from_utf8(names).unwrap(), String::from_utf8(texts).unwrap());
+    let mut tried = 0;
+    for name in names.lines() {
+        let input = stored(&format!("simulate_cases/data/{name}"));
+        if input.len() < 8 {
+            continue;
+        }
+        let (_, behind) = texts.split_once(&format!("{name}:\n")).unwrap();
+        let wanted: String = behind.lines().take_while(|line| !line.ends_with(':')).map(|line| format!("{line}\n")).collect();
+        let (status, out, err) = simulated(&input);
+        if status == 0 {
+            assert_eq!((out, &err[..]), (wanted, ""), "{name}");
+        } else {
+            assert_eq!((status, &out[..]), (1, ""), "{name}");
+            assert!(err.starts_with(&format!("kortyghai: refused ({}): ", wanted.trim_end())), "{name}: {err}");
+        }
+        tried += 1;
+    }
+    assert!(tried > 20, "{tried}");
+}
+
+#[test]
+fn simulate_says_who_learns_more() {
+    let closed = run(&["make", "2", "2", "1", "31", "3"], &[]).stdout;
+    let mut wider = closed.clone();
+    wider[2] = 2;
+    let (status, out, err) = told(&["simulate", "-", "3", "2"], &wider);
+    let words = "kortyghai: refused (7): users 1 and 2 of cluster 1, together with relay 2, learn more than they may\n";
+    assert_eq!((status, &out[..], &err[..]), (1, "", words));
+    assert_eq!(told(&["simulate", "-", "3", "2"], &closed), (0, "1 2 24 11 11\n2 3 6 8 8\n".to_string(), String::new()));
+    assert!(told(&["simulate", "-", "3", "0"], &closed).2.starts_with("kortyghai: refused (18): "));
+    assert!(told(&["simulate", "-", "3", "10001"], &closed).2.starts_with("kortyghai: refused (18): "));
+}
+
 #[test]
 fn help_and_version() {
     let (status, out, err) = told(&["--help"], &[]);
     assert_eq!((status, &err[..]), (0, ""));
-    assert!(["vet FILE", "make U V T q γ", "pairs U V T", "show FILE", "Exit status"].iter().all(|part| out.contains(part)), "{out}");
+    assert!(
+        ["vet FILE", "make U V T q γ", "pairs U V T", "show FILE", "simulate FILE CAP ROUNDS", "Exit status"]
+            .iter()
+            .all(|part| out.contains(part)),
+        "{out}"
+    );
     assert_eq!(told(&["--version"], &[]), (0, concat!("kortyghai ", env!("CARGO_PKG_VERSION"), "\n").to_string(), String::new()));
 }
 
 #[test]
 fn wrong_usage_is_2() {
-    let wrong: [&[&str]; 10] = [
+    let wrong: [&[&str]; 14] = [
         &[],
         &["dance"],
         &["vet"],
@@ -137,6 +204,10 @@ fn wrong_usage_is_2() {
         &["make", "2", "2", "one", "5", "2"],
         &["pairs", "2", "-2", "1"],
         &["pairs", "4294967296", "2", "1"],
+        &["simulate", "-", "3"],
+        &["simulate", "-", "3", "2", "1"],
+        &["simulate", "-", "-3", "2"],
+        &["simulate", "no/such/file", "3", "2"],
     ];
     for words in wrong {
         let (status, out, err) = told(words, &SMALL);

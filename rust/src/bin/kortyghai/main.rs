@@ -5,7 +5,7 @@
 
 mod words;
 
-use kortyghai::{Counts, KeyTable, Plan, Refusal, Symbol, MAX_BYTES, MAX_RECORD};
+use kortyghai::{Counts, KeyTable, PaperRun, Plan, Refusal, Symbol, MAX_BYTES, MAX_RECORD};
 use std::ffi::OsString;
 use std::io::{self, IsTerminal, Read, Write};
 use std::process::ExitCode;
@@ -20,6 +20,10 @@ Usage: kortyghai COMMAND
                   users, coalitions of at most T, a prime q, powers of the symbol γ
   pairs U V T     prints how many pairs of coalition and observer the vet looks at
   show FILE       prints the plan and the key table of a record, without vetting it
+  simulate FILE CAP ROUNDS
+                  a pool on paper: vets the record and prints a line for each of ROUNDS rounds
+                  with readings from 0 to CAP: the round's number, the index of the user who
+                  sends last, relay 1's sum, the sum of the readings and the shown total
   --help          prints this
   --version       prints the version
 
@@ -29,15 +33,15 @@ Exit status: 0 accepted, 1 refused, 2 wrong usage or a file that can't be read o
 
 /// Why there is no result.
 enum Failure {
-    /// The core refuses: what was asked for, and the refusal.
-    Refused(Refusal),
+    /// The core refuses; with V of the plan, where that is known.
+    Refused(Refusal, Option<u32>),
     /// The tool was used wrongly, or a file can't be read or written.
     Usage(String),
 }
 
 impl From<Refusal> for Failure {
     fn from(refusal: Refusal) -> Failure {
-        Failure::Refused(refusal)
+        Failure::Refused(refusal, None)
     }
 }
 
@@ -53,8 +57,8 @@ fn main() -> ExitCode {
     let words: Vec<&str> = texts.iter().map(String::as_str).collect();
     match run(&words, &arguments) {
         Ok(status) => status,
-        Err(Failure::Refused(refusal)) => {
-            eprintln!("kortyghai: refused ({}): {}", refusal.number(), words::of(&refusal, None));
+        Err(Failure::Refused(refusal, size)) => {
+            eprintln!("kortyghai: refused ({}): {}", refusal.number(), words::of(&refusal, size));
             ExitCode::from(REFUSED)
         }
         Err(Failure::Usage(what)) => {
@@ -64,18 +68,23 @@ fn main() -> ExitCode {
     }
 }
 
-/// One arm for each command; `given` are the same words as they came, for names of files. `simulate` (a pool on paper, from standard input) goes here once
-/// the archive has its entries.
+/// One arm for each command; `given` are the same words as they came, for names of files.
 fn run(words: &[&str], given: &[OsString]) -> Outcome {
     match words {
         ["vet", _] => vet(&bytes_of(&given[1])?),
         ["make", u, v, t, q, generator] => make(counts(u, v, t)?, number("q", q)?, number("γ", generator)?),
         ["pairs", u, v, t] => pairs(counts(u, v, t)?),
         ["show", _] => show(&bytes_of(&given[1])?),
+        ["simulate", _, cap, rounds] => {
+            let (cap, rounds) = (number("CAP", cap)?, number("ROUNDS", rounds)?);
+            simulate(&bytes_of(&given[1])?, cap, rounds)
+        }
         ["--help" | "-h" | "help"] => print(HELP),
         ["--version" | "-V"] => print(concat!("kortyghai ", env!("CARGO_PKG_VERSION"), "\n")),
         [] => Err(Failure::Usage(format!("a command is wanted\n\n{HELP}"))),
-        [command @ ("vet" | "make" | "pairs" | "show"), ..] => Err(Failure::Usage(format!("wrong words after `{command}`\n\n{HELP}"))),
+        [command @ ("vet" | "make" | "pairs" | "show" | "simulate"), ..] => {
+            Err(Failure::Usage(format!("wrong words after `{command}`\n\n{HELP}")))
+        }
         [other, ..] => Err(Failure::Usage(format!("there is no command `{other}`\n\n{HELP}"))),
     }
 }
@@ -115,7 +124,8 @@ fn print(result: &str) -> Outcome {
 }
 
 fn make(counts: Counts, q: Symbol, generator: Symbol) -> Outcome {
-    let table = waited(counts, move || counts.make_table(q, generator))?;
+    let made = waited(counts, move || counts.make_table(q, generator));
+    let table = made.map_err(|refusal| Failure::Refused(refusal, Some(counts.size)))?;
     let mut record = [0; MAX_RECORD];
     let record = &mut record[..table.plan().record_size()];
     table.write_record(record)?;
@@ -130,10 +140,30 @@ fn show(bytes: &[u8]) -> Outcome {
     print(&words::shown(&KeyTable::read_record(bytes)?))
 }
 
+/// What the program `simulate` prints, where it is not refused.
+fn simulate(record: &[u8], cap: u32, rounds: u32) -> Outcome {
+    let (plan, counts) = plan_in(record);
+    let bytes = [&cap.to_le_bytes(), &rounds.to_le_bytes(), record].concat();
+    let lines = waited(counts, move || {
+        let mut run = PaperRun::open(&bytes)?;
+        let mut lines = Vec::new();
+        while !run.is_over() {
+            lines.extend_from_slice(run.next_line()?.as_bytes());
+        }
+        Ok(lines)
+    });
+    put(&lines.map_err(|refusal| Failure::Refused(refusal, plan.map(|plan| plan.size)))?, ACCEPTED)
+}
+
+/// The plan of a record, where it can be read, and its counts, which are 0 where it can't.
+fn plan_in(bytes: &[u8]) -> (Option<Plan>, Counts) {
+    let plan = KeyTable::read_record(bytes).ok().map(|table| *table.plan());
+    (plan, plan.map_or(Counts { clusters: 0, size: 0, limit: 0 }, |plan| plan.counts()))
+}
+
 /// What the program `vet` decides, in words. Where the record can be read, its plan says who the users are.
 fn vet(bytes: &[u8]) -> Outcome {
-    let plan = KeyTable::read_record(bytes).ok().map(|table| *table.plan());
-    let counts = plan.map_or(Counts { clusters: 0, size: 0, limit: 0 }, |plan| plan.counts());
+    let (plan, counts) = plan_in(bytes);
     let owned = bytes.to_vec();
     match waited(counts, move || kortyghai::vet_record(&owned)) {
         Ok(()) => put(words::accepted(plan.as_ref()).as_bytes(), ACCEPTED),
