@@ -36,9 +36,9 @@
  *
  * TIME. kortyghai_derive_keys and kortyghai_make_table judge the plan as the vet does, at each call, and walk only where they
  * refuse it: of accepted plans with 16 users that takes 0.01 to 0.3 ms for T up to 2 and 1 to 20 ms for a larger T. The vets
- * themselves walk: some 100 to 150 ms of the largest plans, some 0.15 ms of 16 users with T of 1. docs/SPEED.md has tables, and
- * kortyghai_count_pairs says beforehand how many pairs of coalition and observer there are. Cyclic networks take tens of
- * microseconds, all other calls a few at most.
+ * themselves walk: some 100 to 150 ms of the largest plans, some 0.15 ms of 16 users with T of 1; so does kortyghai_paper_open.
+ * docs/SPEED.md has tables, and kortyghai_count_pairs says beforehand how many pairs of coalition and observer there are.
+ * Cyclic networks take tens of microseconds, all other calls a few at most.
  *
  * WHAT THE TIME TELLS. In kortyghai_upload, kortyghai_unmask, kortyghai_signed_upload, kortyghai_signed_unmask,
  * kortyghai_show_totals and the counting of frames, no jump, no division and no address depends on a reading, a key or a
