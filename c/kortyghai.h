@@ -23,7 +23,8 @@
  * writes to what another has.
  *
  * WHAT IT NEEDS. memcpy, memmove and memset, and no other function or library; and stack: 2 KB for a user's calls, 5 KB for
- * a relay's and the server's, 34 KB for those that vet (c/README.md has each call, measured). It is code for x86-64.
+ * a relay's and the server's, 34 KB for those that vet or deal keys, 56 KB for the table maker (c/README.md has each call,
+ * measured). It is code for x86-64.
  *
  * SOURCE KEYS. Secrecy is proved for source keys whose symbols are drawn evenly from 0 to q - 1, each with equal chance and
  * apart from all others. Draw them fresh from a good random generator, without the bias that a remainder modulo q leaves,
@@ -646,7 +647,8 @@ uint64_t kortyghai_paper_line(const uint32_t plan[KORTYGHAI_PLAN_NUMBERS], const
  *
  * The structs are C's own: the functions pass addresses of their members, so that the archive assumes nothing of their
  * layout. A struct filled with zeros is refused by every function but those that fill it (of a stream, whose address is the
- * caller's to set, nothing can be said). kortyghai_vet_record takes bytes alone and has no such function.
+ * caller's to set, nothing can be said). kortyghai_vet_record and kortyghai_check_prime take bytes or a number alone and have no
+ * such function.
  */
 
 struct kortyghai_plan {

@@ -18,7 +18,7 @@ static void (*job)(void);
 
 /* ---- inputs ---- */
 
-static struct kortyghai_key_table tables[4];
+static struct kortyghai_key_table tables[4], leaking[4], made; /* those that leak are the same with coalitions of any size */
 static struct kortyghai_relay relay;
 static struct kortyghai_server server;
 static struct kortyghai_window window;
@@ -55,6 +55,9 @@ static void fill(void) {
     for (size_t i = 0; i < 4; i++) {
         tables[i].plan = plans[i];
         if (kty_make_table(&tables[i], 3) != 0) printf("no table %zu\n", i);
+        leaking[i] = tables[i];
+        leaking[i].plan.numbers[KORTYGHAI_PLAN_LIMIT] = KORTYGHAI_MAX_USERS;
+        if (kortyghai_number(kty_vet(&leaking[i])) != KORTYGHAI_LEAKS) printf("no leak %zu\n", i);
         kty_write_record(&tables[i], records[i], kty_record_size(&tables[i].plan));
         runs[i][0] = 9; /* the cap */
         runs[i][4] = 9; /* the rounds */
@@ -75,11 +78,15 @@ static void nothing(void) {
 }
 
 static void vet(void) {
-    for (size_t i = 0; i < 4; i++) answers += kty_vet(&tables[i]);
+    for (size_t i = 0; i < 4; i++) answers += kty_vet(&tables[i]) + kty_vet(&leaking[i]);
 }
 
 static void vet_joint(void) {
-    for (size_t i = 0; i < 4; i++) answers += kty_vet_joint(&tables[i], 1, 2, &looked);
+    for (size_t i = 0; i < 4; i++) answers += kty_vet_joint(&tables[i], 1, 2, &looked) + kty_vet_joint(&leaking[i], 1, 2, &looked);
+}
+
+static void check_prime(void) {
+    answers += kortyghai_check_prime(KORTYGHAI_MAX_Q) + kortyghai_check_prime(65521) + kortyghai_check_prime(3215031751u);
 }
 
 static void count_pairs(void) {
@@ -90,8 +97,12 @@ static void find_rate(void) {
     for (size_t i = 0; i < 4; i++) answers += kty_rate(&plans[i], &rate);
 }
 
+/* The powers of 1 are all the same, and so the table that they give leaks. */
 static void make_table(void) {
-    for (size_t i = 0; i < 4; i++) answers += kty_make_table(&tables[i], 3);
+    for (size_t i = 0; i < 4; i++) {
+        made = tables[i];
+        answers += kty_make_table(&made, 3) + kty_make_table(&made, 1);
+    }
 }
 
 static void vet_record(void) {
@@ -107,10 +118,11 @@ static void write_record(void) {
 }
 
 static void derive_keys(void) {
-    for (size_t i = 0; i < 4; i++) {
+    for (size_t i = 0; i < 8; i++) {
+        const struct kortyghai_key_table *table = i < 4 ? &tables[i] : &leaking[i - 4];
         size_t length = KORTYGHAI_MAX_LENGTH;
-        answers += kty_derive_keys(&tables[i], length, symbols, tables[i].plan.numbers[KORTYGHAI_PLAN_RATE] * length, out,
-                                   kty_users(&tables[i].plan) * length);
+        answers += kty_derive_keys(table, length, symbols, table->plan.numbers[KORTYGHAI_PLAN_RATE] * length, out,
+                                   kty_users(&table->plan) * length);
     }
 }
 
@@ -262,7 +274,7 @@ struct entry {
 };
 
 static const struct entry entries[] = {
-    {"vet", vet}, {"vet_joint", vet_joint}, {"count_pairs", count_pairs}, {"rate", find_rate}, {"make_table", make_table},
+    {"vet", vet}, {"vet_joint", vet_joint}, {"check_prime", check_prime}, {"count_pairs", count_pairs}, {"rate", find_rate}, {"make_table", make_table},
     {"vet_record", vet_record}, {"read_record", read_record}, {"write_record", write_record}, {"derive_keys", derive_keys}, {"draw", draw},
     {"stock_open", stock_open}, {"stock_draw", stock_draw}, {"upload", upload}, {"unmask", unmask}, {"signed_upload", signed_upload},
     {"signed_unmask", signed_unmask}, {"relay_open", relay_open}, {"relay_count", relay_count}, {"relay_give", relay_give},
