@@ -28,7 +28,7 @@ fn primes() -> &'static [Symbol] {
 
 /// Does no prime up to the root divide q?
 fn is_prime(q: Symbol) -> bool {
-    q >= 2 && primes().iter().take_while(|&&p| p as u64 * p as u64 <= q as u64).all(|&p| !q.is_multiple_of(p))
+    q >= 2 && primes().iter().take_while(|&&p| p as u64 * p as u64 <= q as u64).all(|&p| q % p != 0)
 }
 
 /// A number, low byte first.

@@ -136,7 +136,7 @@ fn every_set(s: &mut Seeded) -> Kind {
 /// A damaged round gets the first number of its damages by every call, whatever the frame.
 fn attempt_set(kind: &mut Kind, s: &mut Seeded, set: usize) {
     let ((round, frame), number) = states::damaged(s, set);
-    let of_round = Some(number).filter(|_| !set.is_multiple_of(1 << OF_ROUND));
+    let of_round = Some(number).filter(|_| set % (1 << OF_ROUND) != 0);
     kind.attempt(&round, &frame, Some(number), of_round);
 }
 

@@ -30,7 +30,7 @@ pub struct Book {
 /// Has q, of all numbers up to its root, the divisor 1 alone? Each q is looked at once, as the same few come often.
 fn is_prime(q: Symbol) -> bool {
     static KNOWN: Mutex<Option<HashMap<Symbol, bool>>> = Mutex::new(None);
-    let divisors = || (1..=q.isqrt()).filter(|&d| q.is_multiple_of(d)).take(2).count();
+    let divisors = || (1..=q.isqrt()).filter(|&d| q % d == 0).take(2).count();
     *KNOWN.lock().unwrap().get_or_insert_default().entry(q).or_insert_with(|| q != 1 && divisors() == 1)
 }
 

@@ -15,7 +15,7 @@ pub const NO_PRIMES: [Symbol; 12] = [0, 1, 4, 9, 25, 65_535, 65_536, 65_541, 12_
 /// Has q no divisor from 2 to its root? Each q is looked at once, as the same few come often.
 pub fn is_prime(q: Symbol) -> bool {
     static KNOWN: Mutex<Option<HashMap<Symbol, bool>>> = Mutex::new(None);
-    *KNOWN.lock().unwrap().get_or_insert_default().entry(q).or_insert_with(|| q > 1 && (2..=q.isqrt()).all(|d| !q.is_multiple_of(d)))
+    *KNOWN.lock().unwrap().get_or_insert_default().entry(q).or_insert_with(|| q > 1 && (2..=q.isqrt()).all(|d| q % d != 0))
 }
 
 /// Below n, and mostly below a smaller bound.
