@@ -25,8 +25,15 @@ pub enum Operation {
     Opposite,
     Product,
     MulAdd,
+    Cross,
     Power,
     Inverse,
+}
+
+// m a, less b times what the exponent is here: taken off by as many steps of what lacks to it.
+fn second_cross(q: u64, a: u64, b: u64, c: Case) -> u64 {
+    let minus = add_often(q, 0, last_below(q), wide(c.exponent));
+    add_often(q, add_often(q, 0, a, wide(c.m)), minus, b)
 }
 
 // One step up is to add 1, one step down to add the last number below q.
@@ -42,6 +49,7 @@ fn second_result(operation: Operation, c: Case) -> u64 {
         Operation::Opposite => add_often(q, 0, last_below(q), wide(c.a)),
         Operation::Product => add_often(q, 0, a, b),
         Operation::MulAdd => add_often(q, a, rest(q, wide(c.m)), b),
+        Operation::Cross => second_cross(q, a, b, c),
         Operation::Power => power(q, a, c.exponent as u64),
         Operation::Inverse => inverse(q, a),
     }
@@ -56,6 +64,7 @@ fn result(operation: Operation, c: Case) -> Symbol {
         Operation::Opposite => arithmetic::opposite_mod(c.q, c.a),
         Operation::Product => arithmetic::mul_mod(c.q, c.a, c.b),
         Operation::MulAdd => arithmetic::mul_add_mod(c.q, c.a, c.m, c.b),
+        Operation::Cross => arithmetic::cross_mod(c.q, c.m, c.a, c.exponent, c.b),
         Operation::Power => arithmetic::power_mod(c.q, c.a, c.exponent),
         Operation::Inverse => arithmetic::inverse_mod(c.q, c.a),
     }
@@ -120,14 +129,14 @@ fn symbols_agree(operation: Operation, c: Case, second: u64) -> bool {
     }
 }
 
-// The opposite and the product added to a number have no form with tests.
+// The opposite, the product added to a number and the crossing have no form with tests.
 pub fn operation_agrees(divisors: &Divisors, operation: Operation, c: Case) -> bool {
     let second = second_result(operation, c);
     if wide(result(operation, c)) != second {
         return false;
     }
     match operation {
-        Operation::Opposite | Operation::MulAdd => true,
+        Operation::Opposite | Operation::MulAdd | Operation::Cross => true,
         Operation::SymbolSum | Operation::SymbolDifference => symbols_agree(operation, c, second),
         _ => checked_agrees(divisors, operation, c, second),
     }

@@ -157,6 +157,7 @@ pub fn sums(t: Tally, divisors: &Divisors) -> Tally {
 pub fn products(t: Tally, divisors: &Divisors) -> Tally {
     let mut s = two_lines(t, divisors, b"product, mul_mod", Operation::Product, PAIRS);
     s = two_lines(s, divisors, b"mul_add_mod", Operation::MulAdd, TRIPLES);
+    s = two_lines(s, divisors, b"cross_mod", Operation::Cross, TRIPLES);
     s = two_lines(s, divisors, b"power, power_mod", Operation::Power, PAIRS);
     two_lines(
         s,

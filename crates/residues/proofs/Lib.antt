@@ -1,8 +1,10 @@
 pub mod Congruence
 pub mod CongruentSums
+pub mod Crossings
 pub mod FieldLaws
 pub mod InverseLaws
 pub mod PowerLaws
 pub mod PrimeLaws
 pub mod RunningSum
 pub mod SymbolLaws
+pub mod Units
