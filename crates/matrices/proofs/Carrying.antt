@@ -8,7 +8,7 @@ use native.Mathlib.Omega.{arith}
 use lib.Arith.{digits-lt}
 use lib.Dec.{eqb}
 use lib.ListN.{length, set}
-use lib.Seq.{getD-set-other}
+use lib.Seq.{getD-set-other, set-getD}
 use Rattle.lists.specs.Lists.{at}
 use Rattle.lists.proofs.Filling.{Filling, filling-none, filling-next}
 use Rattle.matrices.specs.Tables.{rowOf, pivotOf, hasPivot}
@@ -28,6 +28,11 @@ carrying-next f v₀ v k x c h e =
       front = filling-next f v₀ v k x (c .front) h e;
       rest = λ j l. getD-set-other v k j x 0 (omega arith) ∙ c .rest j (omega arith);
     }
+
+-- a value that is left alone
+pub carrying-past : (f : ℕ → ℕ) (v₀ v : List ℕ) (k : ℕ) → Carrying f v₀ v k → k < length v → at v₀ k ≡ f k → Carrying f v₀ v (k + 1)
+carrying-past f v₀ v k c h e =
+    subst (λ (w : List ℕ). Carrying f v₀ w (k + 1)) (set-getD v k 0) (carrying-next f v₀ v k (at v k) c h (c .rest k (omega arith) ∙ e))
 
 -- places of a table
 pub cell-place : (rows cols i p n : ℕ) → i < rows → p < cols → rows * cols ≡ n → i * cols + p < n

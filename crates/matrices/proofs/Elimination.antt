@@ -1,33 +1,32 @@
--- The law of elimination. The rows of a table that was eliminated by some of its rows are the rows modulo the span of those: every product with a
--- list that is orthogonal to them stays, and every product of the new rows is one of the old rows with such a list. So nothing is ever solved for
--- coefficients.
+-- The law of elimination. The rows of a table that was eliminated by some of its rows are multiples of the rows, by numbers that have an inverse, modulo the
+-- span of those: so are their products with every list that is orthogonal to them, and every product of the new rows is one of the old rows with such a list.
+-- So nothing is ever solved for coefficients.
 use mathlib.Core.Path.{_≡_, refl, sym, ap, ap₂, _∙_, subst}
-use mathlib.Core.Bool.{Bool, cond}
+use mathlib.Core.Bool.{Bool, true, false, cond}
 use mathlib.Core.Logic.{_↔_}
 use mathlib.Core.List.{List, [], _∷_, _++_, map, map-append, append-assoc}
 use Prim.Native.Nat.{ℕ, zero, suc, _+_, _-_, _*_, _%_, _≤_, _<_}
 use native.Mathlib.Nat.{mod-eq-of-lt, zero-mod}
-use native.Mathlib.Decide.{decLt}
+use native.Mathlib.Decide.{decLt, ℕ-discrete}
 use native.Mathlib.Omega.{arith}
-use lib.Dec.{T, ltb}
+use lib.Dec.{T, eqb, ltb}
 use lib.ListN.{length, drop}
-use borrow.Author.Tests.{lt-ltb, le-ltb}
+use borrow.Author.Tests.{eq-eqb, ne-eqb, lt-ltb, le-ltb}
 use Rattle.residues.specs.Primes.{Prime, allBelow}
-use Rattle.residues.specs.Field.{inverseOf}
 use Rattle.lists.proofs.Searches.{T→true, not-T→false}
-use Rattle.residues.proofs.Congruence.{Cong, to-mod, of-eq, of-rem, c-refl, c-sym, c-trans, c-add, c-mul-left, c-mul-right, cong-one, zero-not-one}
-use Rattle.residues.proofs.InverseLaws.{inverse-one}
+use Rattle.residues.proofs.Congruence.{Cong, to-mod, of-eq, c-refl, c-sym, c-trans, c-add, c-mul-left, cong-one, zero-not-one}
+use Rattle.residues.proofs.Units.{IsUnit, unit-one, unit-product, unit-number, unit-zero}
 use Rattle.lists.specs.Lists.{at, All, zeros}
 use Rattle.matrices.specs.Linear.{Vector, add, scale}
 use Rattle.matrices.proofs.Notions.{dotN, InSpan, Independent}
 use Rattle.matrices.specs.Rank.{inSpan, rankOver, rankOf}
-use Rattle.matrices.specs.Tables.{rowOf, rowsOf, pivotOf, cleared, pivotRow, hasPivot, clearedBy, eliminatedFrom, eliminated, pivotsFrom}
+use Rattle.matrices.specs.Tables.{rowOf, rowsOf, pivotOf, cleared, hasPivot, clearedBy, eliminatedFrom, eliminated, pivotsFrom}
 use Rattle.lists.proofs.Members.{all-append, all-left, all-right, all-snoc}
 use Rattle.matrices.proofs.Vectors.{dot-right}
 use Rattle.matrices.proofs.Spans.{span-dot, in-span-iff}
 use Rattle.matrices.proofs.Duality.{orthogonal-cong, span-unless}
-use Rattle.matrices.proofs.Steps.{rows-fit, rest-size, length-scaled, length-cleared, length-eliminated, pivot-is, no-pivot, some-pivot}
-use Rattle.matrices.proofs.Rows.{pivot-nonzero, pivot-none, dot-scaled-row, dot-cleared, vector-cleared, vector-row, dot-pick, row-before}
+use Rattle.matrices.proofs.Steps.{rows-fit, rest-size, length-cleared, length-eliminated, pivot-is, no-pivot, some-pivot}
+use Rattle.matrices.proofs.Rows.{multipleOf, pivot-nonzero, pivot-none, dot-cleared, vector-cleared, vector-row, dot-pick, row-before}
 use Rattle.matrices.proofs.Rows.{row-after, row-rest, row-eachRow, rows-from}
 
 -- a table of at most 48 rows and columns whose rows are symbols
@@ -41,90 +40,125 @@ pub record Table (q rows cols : ℕ) (T : List ℕ) : Type 0 where
 abbrev pub Orthogonal : ℕ → List (List ℕ) → List ℕ → Type 0
 Orthogonal q S N = All (λ s. Cong q (dotN s N) 0) S
 
--- orthogonal to S, and with the products that the rows of U from number `low` on have with N
-pub record Pulled (q rows cols low : ℕ) (row : ℕ → List ℕ) (S : List (List ℕ)) (U N : List ℕ) : Type 0 where
+-- orthogonal to S, and with the products that the rows of U from number `low` on have with N, but for their factors
+pub record Pulled (q rows cols low : ℕ) (factor : ℕ → ℕ) (row : ℕ → List ℕ) (S : List (List ℕ)) (U N : List ℕ) : Type 0 where
   pub N′ : List ℕ
   pub none : Orthogonal q S N′
-  pub same : (j : ℕ) → low ≤ j → j < rows → Cong q (dotN (row j) N′) (dotN (rowOf cols U j) N)
+  pub same : (j : ℕ) → low ≤ j → j < rows → Cong q (factor j * dotN (row j) N′) (dotN (rowOf cols U j) N)
 
--- from number `low` on the rows of U are the rows `row` modulo the span of S
+-- from number `low` on the rows of U are multiples of the rows `row` modulo the span of S
 pub record Reduced (q rows cols low : ℕ) (row : ℕ → List ℕ) (S : List (List ℕ)) (U : List ℕ) : Type 0 where
-  pub down : (N : List ℕ) → Orthogonal q S N → (j : ℕ) → low ≤ j → j < rows → Cong q (dotN (rowOf cols U j) N) (dotN (row j) N)
-  pub up : (N : List ℕ) → Pulled q rows cols low row S U N
+  pub factor : ℕ → ℕ
+  pub unit : (j : ℕ) → low ≤ j → j < rows → IsUnit q (factor j)
+  pub down : (N : List ℕ) → Orthogonal q S N → (j : ℕ) → low ≤ j → j < rows → Cong q (dotN (rowOf cols U j) N) (factor j * dotN (row j) N)
+  pub up : (N : List ℕ) → Pulled q rows cols low factor row S U N
 
 pub reduced-none : (q rows cols : ℕ) (T : List ℕ) → Reduced q rows cols 0 (rowOf cols T) [] T
 reduced-none q rows cols T =
     record {
-      down = λ N h j l k. c-refl;
-      up = λ N. record { N′ = N; none = tt; same = λ j l k. c-refl };
+      factor = λ j. 1;
+      unit = λ j l k. unit-one;
+      down = λ N h j l k. of-eq (omega arith);
+      up = λ N. record { N′ = N; none = tt; same = λ j l k. of-eq (omega arith) };
     }
 
 -- ---- one row more
 
--- a row u with u[p] c = 1: its product with N less u[p] times that of c u is 0
-kill-number : (q m u c d s : ℕ) → q ≡ m + 1 → Cong q (u * c) 1 → Cong q s (c * d) → Cong q (d + m * s * u) 0
-kill-number q m u c d s em one hs =
-    c-trans (c-add (c-refl {a = d}) (c-mul-right u (c-mul-left m hs)))
-    (c-trans
-    (of-eq (omega arith))
+-- where y c = 1, to take c d y off d leaves 0
+kill-number : (q m y c d : ℕ) → q ≡ m + 1 → Cong q (y * c) 1 → Cong q (d + m * (c * d) * y) 0
+kill-number q m y c d em one =
+    c-trans (of-eq (omega arith))
     (c-trans
     (c-add (c-refl {a = d}) (c-mul-left (m * d) one))
-    (record { up = 0; dn = d; eq = omega (arith, ap (λ (z : ℕ). z * d) em) })))
+    (record { up = 0; dn = d; eq = omega (arith, ap (λ (z : ℕ). z * d) em) }))
+
+-- and what takes c d x off a number takes d x off the multiple of it: where x is 0 nothing, by whatever the number is multiplied
+multiple-number : (q m y x c d n : ℕ) → Cong q (y * c) 1 → Cong q (multipleOf y x * (n + m * (c * d) * x)) (multipleOf y x * n + m * x * d)
+multiple-number q m y x c d n one =
+    c-trans (of-eq (omega (arith, ap (λ (z : ℕ). m * (c * d) * z) (multiple-of-it (ℕ-discrete x 0)))))
+    (c-trans (c-add (c-refl {a = multipleOf y x * n}) (c-mul-left (m * x * d) one)) (of-eq (omega arith)))
+  where
+    multiple-of-it : Dec (x ≡ 0) → multipleOf y x * x ≡ y * x
+    multiple-of-it (yes e) = rw (eq-eqb x 0 e) (omega (arith, ap (λ (z : ℕ). y * z) e))
+    multiple-of-it (no n) = rw (ne-eqb x 0 n)
+
+-- by what has an inverse a row is multiplied in both cases
+pub unit-multiple : {q y : ℕ} → IsUnit q y → (x : ℕ) → IsUnit q (multipleOf y x)
+unit-multiple {q} {y} u x = go (eqb x 0)
+  where
+    go : (t : Bool) → IsUnit q (cond t 1 y)
+    go true = unit-one
+    go false = u
 
 module _ (q rows cols low : ℕ) (row : ℕ → List ℕ) (S : List (List ℕ)) (U : List ℕ) (i : ℕ) (low-i : low ≤ i) (i-rows : i < rows)
     (R : Reduced q rows cols low row S U) where
+  -- row i has the product 0 with a list that was pulled back from one with which row i of U has it
+  pulled-zero : (N : List ℕ) → Cong q (dotN (rowOf cols U i) N) 0 → Cong q (dotN (row i) (R .up N .N′)) 0
+  pulled-zero N z = unit-zero (R .unit i low-i i-rows) (dotN (row i) (R .up N .N′)) .0 (c-trans (R .up N .same i low-i i-rows) z)
+
   -- row i of U is 0: row i was in the span already
   reduced-same : (low′ : ℕ) → low ≤ low′ → ((N : List ℕ) → dotN (rowOf cols U i) N ≡ 0) → Reduced q rows cols low′ row (S ++ (row i ∷ [])) U
   reduced-same low′ h z =
       record {
+        factor = R .factor;
+        unit = λ j l k. R .unit j (omega arith) k;
         down = λ N o j l k. R .down N (all-left (λ s. Cong q (dotN s N) 0) S (row i ∷ []) o) j (omega arith) k;
         up = λ N.
             let w = R .up N in
             record {
               N′ = w .N′;
-              none = all-snoc (λ s. Cong q (dotN s (w .N′)) 0) S (row i) (w .none) (c-trans (w .same i low-i i-rows) (of-eq (z N)));
+              none = all-snoc (λ s. Cong q (dotN s (w .N′)) 0) S (row i) (w .none) (pulled-zero N (of-eq (z N)));
               same = λ j l k. w .same j (omega arith) k;
             };
       }
 
-  -- the rows of U′ are those of U, cleared in column p by s, a multiple of row i of U that has 1 there
-  module _ (em : 1 ≤ q) (p c : ℕ) (s U′ : List ℕ) (one : Cong q (at (rowOf cols U i) p * c) 1)
-      (hs : (N : List ℕ) → Cong q (dotN s N) (c * dotN (rowOf cols U i) N)) (low′ : ℕ) (h : low ≤ low′)
+  -- the rows of U′ are those of U, cleared by row i of U in a column p in which that has an inverse
+  module _ (em : 1 ≤ q) (p : ℕ) (U′ : List ℕ) (u : IsUnit q (at (rowOf cols U i) p)) (low′ : ℕ) (h : low ≤ low′)
       (hv : (j : ℕ) → low′ ≤ j → j < rows → (N : List ℕ) → Cong q (dotN (rowOf cols U′ j) N)
-      (dotN (rowOf cols U j) N + (q - 1) * at (rowOf cols U j) p * dotN s N)) where
-    -- the list that has with v what v less v[p] s has with N
-    moved : List ℕ → List ℕ
-    moved N = add N (scale ((q - 1) * dotN s N) (zeros p ++ (1 ∷ [])))
+      (multipleOf (at (rowOf cols U i) p) (at (rowOf cols U j) p) * dotN (rowOf cols U j) N + (q - 1) * at (rowOf cols U j) p * dotN (rowOf cols U i) N)) where
+    multiple : ℕ → ℕ
+    multiple j = multipleOf (at (rowOf cols U i) p) (at (rowOf cols U j) p)
 
-    dot-moved : (v N : List ℕ) → dotN v (moved N) ≡ dotN v N + (q - 1) * dotN s N * at v p
+    -- the list with which row i of U has the product 0, and the others what they have, cleared, with N
+    moved : List ℕ → List ℕ
+    moved N = add N (scale ((q - 1) * (u .inverse * dotN (rowOf cols U i) N)) (zeros p ++ (1 ∷ [])))
+
+    dot-moved : (v N : List ℕ) → dotN v (moved N) ≡ dotN v N + (q - 1) * (u .inverse * dotN (rowOf cols U i) N) * at v p
     unfolding moved
     dot-moved v N =
-        dot-right v N (zeros p ++ (1 ∷ [])) ((q - 1) * dotN s N)
-        ∙ ap (λ (z : ℕ). dotN v N + (q - 1) * dotN s N * z) (dot-pick p v)
+        dot-right v N (zeros p ++ (1 ∷ [])) ((q - 1) * (u .inverse * dotN (rowOf cols U i) N))
+        ∙ ap (λ (z : ℕ). dotN v N + (q - 1) * (u .inverse * dotN (rowOf cols U i) N) * z) (dot-pick p v)
 
     reduced-step : Reduced q rows cols low′ row (S ++ (row i ∷ [])) U′
+    unfolding multiple
     reduced-step =
         record {
+          factor = λ j. multiple j * R .factor j;
+          unit = λ j l k. unit-product (unit-multiple u (at (rowOf cols U j) p)) (R .unit j (omega arith) k);
           down = λ N o j l k.
               let oS : Orthogonal q S N = all-left (λ s. Cong q (dotN s N) 0) S (row i ∷ []) o in
               let z : Cong q (dotN (rowOf cols U i) N) 0
-              = c-trans (R .down N oS i low-i i-rows) (all-right (λ s. Cong q (dotN s N) 0) S (row i ∷ []) o .0) in
+              = c-trans (R .down N oS i low-i i-rows)
+              (unit-zero (R .unit i low-i i-rows) (dotN (row i) N) .1 (all-right (λ s. Cong q (dotN s N) 0) S (row i ∷ []) o .0)) in
               c-trans (hv j l k N)
               (c-trans
-              (c-add (R .down N oS j (omega arith) k) (c-mul-left ((q - 1) * at (rowOf cols U j) p) (c-trans (hs N) (c-mul-left c z))))
+              (c-add (c-mul-left (multiple j) (R .down N oS j (omega arith) k)) (c-mul-left ((q - 1) * at (rowOf cols U j) p) z))
               (of-eq (omega arith)));
           up = λ N.
               let w = R .up (moved N) in
+              let d : ℕ = dotN (rowOf cols U i) N in
               record {
                 N′ = w .N′;
                 none =
                     all-snoc (λ s. Cong q (dotN s (w .N′)) 0) S (row i) (w .none)
-                    (c-trans (w .same i low-i i-rows)
-                    (c-trans (of-eq (dot-moved (rowOf cols U i) N))
-                    (kill-number q (q - 1) (at (rowOf cols U i) p) c (dotN (rowOf cols U i) N) (dotN s N) (omega arith) one (hs N))));
+                    (pulled-zero (moved N)
+                    (c-trans (of-eq (dot-moved (rowOf cols U i) N)) (kill-number q (q - 1) (at (rowOf cols U i) p) (u .inverse) d (omega arith) (u .one))));
                 same = λ j l k.
-                    c-trans (w .same j (omega arith) k)
-                    (c-trans (of-eq (dot-moved (rowOf cols U j) N)) (c-trans (of-eq (omega arith)) (c-sym (hv j l k N))));
+                    c-trans (of-eq (omega arith))
+                    (c-trans (c-mul-left (multiple j) (c-trans (w .same j (omega arith) k) (of-eq (dot-moved (rowOf cols U j) N))))
+                    (c-trans
+                    (multiple-number q (q - 1) (at (rowOf cols U i) p) (at (rowOf cols U j) p) (u .inverse) d (dotN (rowOf cols U j) N) (u .one))
+                    (c-sym (hv j l k N))));
               };
         }
 
@@ -137,12 +171,9 @@ module _ (q : ℕ) (pr : Prime q) (rows cols from : ℕ) (U : List ℕ) (tab : T
   r : List ℕ
   r = rowOf cols U i
 
-  s : List ℕ
-  s = pivotRow q r
-
-  s-size : length s ≡ cols
-  unfolding s r
-  s-size = length-scaled q (inverseOf q (at r (pivotOf r))) r ∙ tab .valid i i-rows .size
+  r-size : length r ≡ cols
+  unfolding r
+  r-size = tab .valid i i-rows .size
 
   pivot-here : hasPivot rows cols i U ≡ ltb (pivotOf r) cols
   unfolding r
@@ -162,15 +193,14 @@ module _ (q : ℕ) (pr : Prime q) (rows cols from : ℕ) (U : List ℕ) (tab : T
   before : pivotOf r < cols → (j : ℕ) → j < from → rowOf cols (eliminatedFrom q rows cols from i U) j ≡ rowOf cols U j
   before h j l = ap (λ (X : List ℕ). rowOf cols X j) (is-cleared h) ∙ row-before cols from U fits _ j l
 
-  after : pivotOf r < cols → (j : ℕ) → from ≤ j → j < rows → rowOf cols (eliminatedFrom q rows cols from i U) j ≡ cleared q (pivotOf r) s (rowOf cols U j)
-  unfolding s
+  after : pivotOf r < cols → (j : ℕ) → from ≤ j → j < rows → rowOf cols (eliminatedFrom q rows cols from i U) j ≡ cleared q (pivotOf r) r (rowOf cols U j)
   after h j l k =
       let e : j ≡ from + (j - from) = omega arith in
       ap₂ (λ (X : List ℕ) (x : ℕ). rowOf cols X x) (is-cleared h) e
       ∙ row-after cols from U fits _ (j - from)
-      ∙ row-eachRow (cleared q (pivotOf r) s) (length-cleared q (pivotOf r) s) cols (rows - from) (drop (from * cols) U)
+      ∙ row-eachRow (cleared q (pivotOf r) r) (length-cleared q (pivotOf r) r) cols (rows - from) (drop (from * cols) U)
       (rest-size rows cols from U from-rows (tab .size)) (j - from) (omega arith)
-      ∙ ap (cleared q (pivotOf r) s) (row-rest cols from U (j - from) ∙ ap (rowOf cols U) (sym e))
+      ∙ ap (cleared q (pivotOf r) r) (row-rest cols from U (j - from) ∙ ap (rowOf cols U) (sym e))
 
   pub eliminated-table : Table q rows cols (eliminatedFrom q rows cols from i U)
   eliminated-table = go (decLt (pivotOf r) cols)
@@ -188,24 +218,27 @@ module _ (q : ℕ) (pr : Prime q) (rows cols from : ℕ) (U : List ℕ) (tab : T
           each : (j : ℕ) → j < rows → Dec (j < from) → Vector q cols (rowOf cols (eliminatedFrom q rows cols from i U) j)
           each j l (yes k) = subst (Vector q cols) (sym (before h j k)) (tab .valid j l)
           each j l (no k) =
-              subst (Vector q cols) (sym (after h j (omega arith) l)) (vector-cleared q pos cols (pivotOf r) s (rowOf cols U j) s-size (tab .valid j l))
+              subst (Vector q cols) (sym (after h j (omega arith) l)) (vector-cleared q pos cols (pivotOf r) r (rowOf cols U j) r-size (tab .valid j l))
 
   -- what a row from `from` on has with any list, where row i is not 0
   pub eliminated-product : pivotOf (rowOf cols U i) < cols → (j : ℕ) → from ≤ j → j < rows → (N : List ℕ)
       → Cong q (dotN (rowOf cols (eliminatedFrom q rows cols from i U) j) N)
-      (dotN (rowOf cols U j) N
-      + (q - 1) * at (rowOf cols U j) (pivotOf (rowOf cols U i)) * (inverseOf q (at (rowOf cols U i) (pivotOf (rowOf cols U i))) * dotN (rowOf cols U i) N))
-  unfolding s r
+      (multipleOf (at (rowOf cols U i) (pivotOf (rowOf cols U i))) (at (rowOf cols U j) (pivotOf (rowOf cols U i))) * dotN (rowOf cols U j) N
+      + (q - 1) * at (rowOf cols U j) (pivotOf (rowOf cols U i)) * dotN (rowOf cols U i) N)
+  unfolding r
   eliminated-product h j l k N =
       c-trans (of-eq (ap (λ (x : List ℕ). dotN x N) (after h j l k)))
-      (c-trans (dot-cleared q pos (pivotOf r) s (rowOf cols U j) N (tab .valid j k .size ∙ sym s-size))
-      (c-add (c-refl {a = dotN (rowOf cols U j) N})
-      (c-mul-left ((q - 1) * at (rowOf cols U j) (pivotOf r)) (dot-scaled-row q pos (inverseOf q (at r (pivotOf r))) r N))))
+      (dot-cleared q pos (pivotOf r) r (rowOf cols U j) N (tab .valid j k .size ∙ sym r-size))
+
+  -- the number of row i at its pivot has an inverse
+  pub pivot-unit : pivotOf (rowOf cols U i) < cols → IsUnit q (at (rowOf cols U i) (pivotOf (rowOf cols U i)))
+  pivot-unit h =
+      unit-number pr (tab .valid i i-rows .small (pivotOf (rowOf cols U i)) h) (pivot-nonzero (rowOf cols U i) (omega (arith, tab .valid i i-rows .size)))
 
   -- the rows from `from` on are now rows modulo one row more
   pub eliminated-reduced : (low : ℕ) (row : ℕ → List ℕ) (S : List (List ℕ)) → low ≤ i → Reduced q rows cols low row S U → (low′ : ℕ) → low ≤ low′ → from ≤ low′
       → Reduced q rows cols low′ row (S ++ (row i ∷ [])) (eliminatedFrom q rows cols from i U)
-  unfolding s r
+  unfolding r
   eliminated-reduced low row S low-i R low′ l f = go (decLt (pivotOf r) cols)
     where
       go : Dec (pivotOf r < cols) → Reduced q rows cols low′ row (S ++ (row i ∷ [])) (eliminatedFrom q rows cols from i U)
@@ -214,16 +247,9 @@ module _ (q : ℕ) (pr : Prime q) (rows cols from : ℕ) (U : List ℕ) (tab : T
           subst (Reduced q rows cols low′ row (S ++ (row i ∷ []))) (sym (is-same h))
           (reduced-same q rows cols low row S U i low-i i-rows R low′ l (pivot-none r (omega (arith, tab .valid i i-rows .size))))
       go (yes h) =
-          let a : ℕ = at r (pivotOf r) in
-          let low-a : a < q = tab .valid i i-rows .small (pivotOf r) h in
-          let some : a % q ≡ 0 → ⊥ = λ z. pivot-nonzero r (omega (arith, tab .valid i i-rows .size)) (sym (mod-eq-of-lt low-a) ∙ z) in
-          reduced-step q rows cols low row S U i low-i i-rows R pos (pivotOf r) (inverseOf q a) s (eliminatedFrom q rows cols from i U)
-          (c-trans (c-sym (of-rem q (a * inverseOf q a))) (of-eq (inverse-one q a pr some .1)))
-          (dot-scaled-row q pos (inverseOf q a) r) low′ l
-          (λ j k g N.
-          subst (λ (x : List ℕ). Cong q (dotN x N) (dotN (rowOf cols U j) N + (q - 1) * at (rowOf cols U j) (pivotOf r) * dotN s N))
-          (sym (after h j (omega arith) g))
-          (dot-cleared q pos (pivotOf r) s (rowOf cols U j) N (tab .valid j g .size ∙ sym s-size)))
+          reduced-step q rows cols low row S U i low-i i-rows R pos (pivotOf r) (eliminatedFrom q rows cols from i U)
+          (pivot-unit h) low′ l
+          (λ j k g N. eliminated-product h j (omega arith) g N)
 
 -- a table keeps its length
 pub eliminated-length : (q rows cols i : ℕ) (T : List ℕ) → rows * cols ≡ length T → length (eliminated q rows cols i T) ≡ length T
@@ -241,11 +267,27 @@ module _ (q : ℕ) (pr : Prime q) (rows cols low : ℕ) (row : ℕ → List ℕ)
   within-vectors f h [] w = tt
   within-vectors f h (j ∷ J) w = (h j (w .0 .1), within-vectors f h J (w .1))
 
-  -- what holds of the products of the old rows holds of those of the new ones
-  carried : (f g : ℕ → List ℕ) (M N : List ℕ) → ((j : ℕ) → low ≤ j → j < rows → Cong q (dotN (g j) N) (dotN (f j) M)) → (J : List ℕ) → Within J
+  -- where the products of the old rows are 0, those of the new ones are
+  carried : (f g : ℕ → List ℕ) (M N : List ℕ) → ((j : ℕ) → low ≤ j → j < rows → Cong q (dotN (f j) M) 0 → Cong q (dotN (g j) N) 0) → (J : List ℕ) → Within J
       → Orthogonal q (map f J) M → Orthogonal q (map g J) N
   carried f g M N h [] w o = tt
-  carried f g M N h (j ∷ J) w o = (c-trans (h j (w .0 .0) (w .0 .1)) (o .0), carried f g M N h J (w .1) (o .1))
+  carried f g M N h (j ∷ J) w o = (h j (w .0 .0) (w .0 .1) (o .0), carried f g M N h J (w .1) (o .1))
+
+  -- a list orthogonal to S has the product 0 with a row after elimination exactly where it had it before
+  down-zero : (N : List ℕ) → Orthogonal q S N → (j : ℕ) → low ≤ j → j < rows → Cong q (dotN (rowOf cols U j) N) 0 ↔ Cong q (dotN (row j) N) 0
+  down-zero N o j l k =
+      let e = unit-zero (R .unit j l k) (dotN (row j) N) in
+      (λ z. e .0 (c-trans (c-sym (R .down N o j l k)) z), λ z. c-trans (R .down N o j l k) (e .1 z))
+
+  -- and so a list and the one that it was pulled back to
+  up-zero : (N : List ℕ) (j : ℕ) → low ≤ j → j < rows → Cong q (dotN (rowOf cols U j) N) 0 ↔ Cong q (dotN (row j) (R .up N .N′)) 0
+  up-zero N j l k =
+      let e = unit-zero (R .unit j l k) (dotN (row j) (R .up N .N′)) in
+      (λ z. e .0 (c-trans (R .up N .same j l k) z), λ z. c-trans (c-sym (R .up N .same j l k)) (e .1 z))
+
+  -- no product is both 0 and 1
+  not-zero-and-one : (r M : List ℕ) → Cong q (dotN r M) 0 → dotN r M % q ≡ 1 → ⊥
+  not-zero-and-one r M z one = zero-not-one q (pr .two) (c-trans (c-sym z) (cong-one q (pr .two) (dotN r M) one))
 
   -- a row is in the span of others after elimination exactly where it was in the span of those and of the rows eliminated by
   pub reduced-span : (J : List ℕ) → Within J → (j : ℕ) → low ≤ j → j < rows
@@ -256,21 +298,23 @@ module _ (q : ℕ) (pr : Prime q) (rows cols low : ℕ) (row : ℕ → List ℕ)
         (λ t.
         let o : Orthogonal q (S ++ map row J) (t .M) = orthogonal-cong q (S ++ map row J) (t .M) (t .orthogonal) in
         let oS : Orthogonal q S (t .M) = all-left (λ s. Cong q (dotN s (t .M)) 0) S (map row J) o in
-        zero-not-one q (pr .two)
-        (c-trans
-        (c-sym (span-dot q cols (map (rowOf cols U) J) (rowOf cols U j) (t .M) v
-        (carried row (rowOf cols U) (t .M) (t .M) (R .down (t .M) oS) J w (all-right (λ s. Cong q (dotN s (t .M)) 0) S (map row J) o))))
-        (c-trans (R .down (t .M) oS j l k) (cong-one q (pr .two) (dotN (row j) (t .M)) (t .one)))))),
+        not-zero-and-one (row j) (t .M)
+        (down-zero (t .M) oS j l k .0
+        (span-dot q cols (map (rowOf cols U) J) (rowOf cols U j) (t .M) v
+        (carried row (rowOf cols U) (t .M) (t .M) (λ j l k. down-zero (t .M) oS j l k .1) J w
+        (all-right (λ s. Cong q (dotN s (t .M)) 0) S (map row J) o))))
+        (t .one))),
     (λ v.
         span-unless q pr cols (map (rowOf cols U) J) (rowOf cols U j) (within-vectors (rowOf cols U) (tab .valid) J w) (tab .valid j k)
         (λ t.
         let p = R .up (t .M) in
-        zero-not-one q (pr .two)
-        (c-trans
-        (c-sym (span-dot q cols (S ++ map row J) (row j) (p .N′) v
+        not-zero-and-one (rowOf cols U j) (t .M)
+        (up-zero (t .M) j l k .1
+        (span-dot q cols (S ++ map row J) (row j) (p .N′) v
         (all-append (λ s. Cong q (dotN s (p .N′)) 0) S (map row J) (p .none)
-        (carried (rowOf cols U) row (t .M) (p .N′) (p .same) J w (orthogonal-cong q (map (rowOf cols U) J) (t .M) (t .orthogonal))))))
-        (c-trans (p .same j l k) (cong-one q (pr .two) (dotN (rowOf cols U j) (t .M)) (t .one)))))),
+        (carried (rowOf cols U) row (t .M) (p .N′) (λ j l k. up-zero (t .M) j l k .0) J w
+        (orthogonal-cong q (map (rowOf cols U) J) (t .M) (t .orthogonal))))))
+        (t .one))),
   )
 
   -- so rows are independent over others exactly where they were independent over those and the rows eliminated by
@@ -312,7 +356,8 @@ module _ (q : ℕ) (pr : Prime q) (rows cols low : ℕ) (row : ℕ → List ℕ)
           let w = R .up (zeros p ++ (1 ∷ [])) in
           let v : InSpan q cols S (row j) = in-span-iff q cols pos′ S (row j) hS .0 t in
           let z : Cong q (at (rowOf cols U j) p) 0
-          = c-trans (of-eq (sym (dot-pick p (rowOf cols U j)))) (c-trans (c-sym (w .same j l k)) (span-dot q cols S (row j) (w .N′) v (w .none))) in
+          = c-trans (of-eq (sym (dot-pick p (rowOf cols U j))))
+          (up-zero (zeros p ++ (1 ∷ [])) j l k .1 (span-dot q cols S (row j) (w .N′) v (w .none))) in
           pivot-nonzero (rowOf cols U j) (omega (arith, tab .valid j k .size)) (sym (mod-eq-of-lt (tab .valid j k .small p h)) ∙ to-mod z ∙ zero-mod q)
 
       inside : cols ≤ pivotOf (rowOf cols U j) → T (inSpan q cols S (row j))
@@ -320,9 +365,10 @@ module _ (q : ℕ) (pr : Prime q) (rows cols low : ℕ) (row : ℕ → List ℕ)
           in-span-iff q cols pos′ S (row j) hS .1
           (span-unless q pr cols S (row j) hS (hrow j k)
           (λ t.
-          zero-not-one q (pr .two)
-          (c-trans (of-eq (sym (pivot-none (rowOf cols U j) (omega (arith, tab .valid j k .size)) (t .M))))
-          (c-trans (R .down (t .M) (orthogonal-cong q S (t .M) (t .orthogonal)) j l k) (cong-one q (pr .two) (dotN (row j) (t .M)) (t .one))))))
+          not-zero-and-one (row j) (t .M)
+          (down-zero (t .M) (orthogonal-cong q S (t .M) (t .orthogonal)) j l k .0
+          (of-eq (pivot-none (rowOf cols U j) (omega (arith, tab .valid j k .size)) (t .M))))
+          (t .one)))
 
       go : Dec (pivotOf (rowOf cols U j) < cols) → _≡_ {A = ℕ} (cond (hasPivot rows cols j U) 1 0) (cond (inSpan q cols S (row j)) 0 1)
       go (yes h) =

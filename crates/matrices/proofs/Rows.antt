@@ -10,14 +10,15 @@ use lib.Dec.{eqb, T}
 use lib.ListN.{length, take, drop, length-drop, take-append-drop}
 use lib.Seq.{take-at, drop-append-add, drop-append-le, take-append-le, drop-drop, length-take-le, getD-take, getD-drop}
 use borrow.Author.Tests.{eq-eqb, ne-eqb}
-use Rattle.residues.specs.Field.{residue, oppositeOf}
+use Rattle.residues.specs.Field.{oppositeOf, crossOf}
 use Rattle.residues.specs.Primes.{allBelow}
-use Rattle.residues.proofs.Congruence.{Cong, of-eq, of-rem, c-refl, c-trans, c-add, c-mul-left, c-mul-right, residue-mod, of-residue}
+use Rattle.residues.proofs.Congruence.{Cong, of-eq, of-rem, c-trans, c-add, c-mul-left, c-mul-right, of-residue}
+use Rattle.residues.proofs.Crossings.{cross-number, cross-small}
 use Rattle.residues.proofs.PrimeLaws.{below-at}
 use Rattle.lists.specs.Lists.{at, zeros}
 use Rattle.matrices.specs.Linear.{Vector}
 use Rattle.matrices.proofs.Notions.{dotN}
-use Rattle.matrices.specs.Tables.{rowOf, rowsOf, pivotOf, scaled, fused, cleared, eachRow}
+use Rattle.matrices.specs.Tables.{rowOf, rowsOf, pivotOf, crossed, cleared, eachRow}
 use Rattle.matrices.proofs.Vectors.{vector-nil, vector-cons}
 use Rattle.matrices.proofs.Steps.{row-fits, length-row}
 
@@ -47,22 +48,19 @@ pivot-none (x ∷ r) h (y ∷ N) = go (ℕ-discrete x 0) h (λ l. pivot-none r l
 
 -- ---- products with any list
 
-module _ (q : ℕ) (pos : 0 < q) where
-  pub dot-scaled-row : (c : ℕ) (r N : List ℕ) → Cong q (dotN (scaled q c r) N) (c * dotN r N)
-  unfolding scaled
-  dot-scaled-row c [] N = of-eq (omega arith)
-  dot-scaled-row c (x ∷ r) [] = of-eq (omega arith)
-  dot-scaled-row c (x ∷ r) (y ∷ N) =
-      c-trans (c-add (c-mul-right y (of-residue q (c * x) pos)) (dot-scaled-row c r N)) (of-eq (omega arith))
+-- what a row is multiplied by that is cleared by one with y in the pivot's column, where it has x there itself
+abbrev pub multipleOf : ℕ → ℕ → ℕ
+multipleOf y x = cond (eqb x 0) 1 y
 
-  dot-fused : (m : ℕ) (r s N : List ℕ) → length r ≡ length s → Cong q (dotN (fused q m r s) N) (dotN r N + m * dotN s N)
-  unfolding fused
-  dot-fused m [] [] N e = of-eq (omega arith)
-  dot-fused m [] (y ∷ s) N e = absurd (omega arith)
-  dot-fused m (x ∷ r) [] N e = absurd (omega arith)
-  dot-fused m (x ∷ r) (y ∷ s) [] e = of-eq (omega arith)
-  dot-fused m (x ∷ r) (y ∷ s) (z ∷ N) e =
-      c-trans (c-add (c-mul-right z (of-residue q (x + m * y) pos)) (dot-fused m r s N (suc-inj e))) (of-eq (omega arith))
+module _ (q : ℕ) (pos : 0 < q) where
+  dot-crossed : (y x : ℕ) (r s N : List ℕ) → length r ≡ length s → Cong q (dotN (crossed q y x r s) N) (y * dotN r N + (q - 1) * x * dotN s N)
+  unfolding crossed
+  dot-crossed y x [] [] N e = of-eq (omega arith)
+  dot-crossed y x [] (b ∷ s) N e = absurd (omega arith)
+  dot-crossed y x (a ∷ r) [] N e = absurd (omega arith)
+  dot-crossed y x (a ∷ r) (b ∷ s) [] e = of-eq (omega arith)
+  dot-crossed y x (a ∷ r) (b ∷ s) (z ∷ N) e =
+      c-trans (c-add (c-mul-right z (cross-number q y a x b pos)) (dot-crossed y x r s N (suc-inj e))) (of-eq (omega arith))
 
   -- what x lacks to a multiple of q is minus x
   pub minus : (x : ℕ) → Cong q (oppositeOf q x) ((q - 1) * x)
@@ -74,36 +72,36 @@ module _ (q : ℕ) (pos : 0 < q) where
       (record { up = x % q; dn = 1; eq = omega (arith, ap (λ (z : ℕ). z * (x % q)) m) })
       (c-mul-left (q - 1) (of-rem q x)))
 
-  -- a cleared row has the product of the row less that of the multiple of s
-  pub dot-cleared : (p : ℕ) (s r N : List ℕ) → length r ≡ length s → Cong q (dotN (cleared q p s r) N) (dotN r N + (q - 1) * at r p * dotN s N)
+  -- a cleared row has the product of the row, times the pivot where it was not 0 there, less that of the multiple of s
+  pub dot-cleared : (p : ℕ) (s r N : List ℕ) → length r ≡ length s
+      → Cong q (dotN (cleared q p s r) N) (multipleOf (at s p) (at r p) * dotN r N + (q - 1) * at r p * dotN s N)
   unfolding cleared
   dot-cleared p s r N l = go (ℕ-discrete (at r p) 0)
     where
-      go : Dec (at r p ≡ 0) → Cong q (dotN (cond (eqb (at r p) 0) r (fused q (oppositeOf q (at r p)) r s)) N) (dotN r N + (q - 1) * at r p * dotN s N)
+      go : Dec (at r p ≡ 0)
+          → Cong q (dotN (cond (eqb (at r p) 0) r (crossed q (at s p) (at r p) r s)) N)
+          (multipleOf (at s p) (at r p) * dotN r N + (q - 1) * at r p * dotN s N)
       go (yes e) = rw (eq-eqb (at r p) 0 e) (of-eq (omega (arith, ap (λ (z : ℕ). (q - 1) * z * dotN s N) e)))
-      go (no n) =
-          rw (ne-eqb (at r p) 0 n)
-          (c-trans (dot-fused (oppositeOf q (at r p)) r s N l) (c-add (c-refl {a = dotN r N}) (c-mul-right (dotN s N) (minus (at r p)))))
+      go (no n) = rw (ne-eqb (at r p) 0 n) (dot-crossed (at s p) (at r p) r s N l)
 
   -- ---- validity
 
-  vector-fused : (m : ℕ) (r s : List ℕ) → length r ≡ length s → Vector q (length r) (fused q m r s)
-  unfolding fused
-  vector-fused m [] s e = vector-nil q
-  vector-fused m (x ∷ r) [] e = absurd (omega arith)
-  vector-fused m (x ∷ r) (y ∷ s) e =
-      vector-cons q (length r) (residue q (x + m * y)) (fused q m r s)
-      (subst (λ (z : ℕ). z < q) (sym (residue-mod q (x + m * y) pos)) (mod-lt (x + m * y) pos)) (vector-fused m r s (suc-inj e))
+  vector-crossed : (y x : ℕ) (r s : List ℕ) → length r ≡ length s → Vector q (length r) (crossed q y x r s)
+  unfolding crossed
+  vector-crossed y x [] s e = vector-nil q
+  vector-crossed y x (a ∷ r) [] e = absurd (omega arith)
+  vector-crossed y x (a ∷ r) (b ∷ s) e =
+      vector-cons q (length r) (crossOf q y a x b) (crossed q y x r s) (cross-small q y a x b pos) (vector-crossed y x r s (suc-inj e))
 
   pub vector-cleared : (n p : ℕ) (s r : List ℕ) → length s ≡ n → Vector q n r → Vector q n (cleared q p s r)
   unfolding cleared
   vector-cleared n p s r e v = go (eqb (at r p) 0)
     where
-      go : (t : Bool) → Vector q n (cond t r (fused q (oppositeOf q (at r p)) r s))
+      go : (t : Bool) → Vector q n (cond t r (crossed q (at s p) (at r p) r s))
       go true = v
       go false =
-          subst (λ (k : ℕ). Vector q k (fused q (oppositeOf q (at r p)) r s)) (v .size)
-          (vector-fused (oppositeOf q (at r p)) r s (v .size ∙ sym e))
+          subst (λ (k : ℕ). Vector q k (crossed q (at s p) (at r p) r s)) (v .size)
+          (vector-crossed (at s p) (at r p) r s (v .size ∙ sym e))
 
   -- the rows of a table of symbols
   pub vector-row : (rows cols : ℕ) (T : List ℕ) → rows * cols ≡ length T → lib.Dec.T (allBelow q T) → (j : ℕ) → j < rows → Vector q cols (rowOf cols T j)
@@ -181,10 +179,6 @@ row-eachRow f keeps cols (suc n) T e (suc j) h =
     ∙ ap (λ (x : ℕ). f (take cols (drop x T))) m
 
 -- the list of the rows from number i on
-pub rows-none : (cols : ℕ) (T : List ℕ) → rowsOf 0 cols T ≡ []
-unfolding rowsOf
-rows-none cols T = refl
-
 pub rows-from : (cols k i : ℕ) (T : List ℕ) → rowsOf (suc k) cols (drop (i * cols) T) ≡ rowOf cols T i ∷ rowsOf k cols (drop ((i + 1) * cols) T)
 unfolding rowsOf
 rows-from cols k i T =

@@ -8,10 +8,10 @@ use native.Mathlib.Numerals.{add-one}
 use native.Mathlib.Omega.{arith}
 use lib.Dec.{eqb, ltb}
 use lib.ListN.{length, getD, take, drop, set, drop-of-length-le, length-append, length-drop, take-append-drop}
-use lib.Seq.{drop-cons, take-suc-set, drop-set-lt, take-all, take-at, drop-at, length-take-le, getD-take, getD-drop}
+use lib.Seq.{drop-cons, take-suc-set, drop-set-lt, take-all, take-at, drop-at, length-take-le}
 use borrow.Author.Tests.{eq-eqb, ne-eqb, lt-ltb, le-leb}
-use Rattle.residues.specs.Field.{oppositeOf, productOf, mulAddOf, inverseOf}
-use Rattle.matrices.specs.Tables.{rowOf, pivotOf, scaled, fused, cleared, pivotRow, eachRow, hasPivot, clearedBy, eliminatedFrom, reducedFrom, pivotsFrom}
+use Rattle.residues.specs.Field.{crossOf}
+use Rattle.matrices.specs.Tables.{rowOf, pivotOf, crossed, cleared, eachRow, hasPivot, clearedBy, eliminatedFrom, reducedFrom, pivotsFrom}
 
 -- ---- the next place of a loop over n places
 
@@ -41,58 +41,45 @@ pivot-end r k h = rw (drop-of-length-le r h)
 
 -- ---- a list filled from the front
 
-pub filled : (out M W : List ℕ) (k v : ℕ) → k < length out → take k out ++ (v ∷ M) ≡ W → take (k + 1) (set out k v) ++ M ≡ W
+filled : (out M W : List ℕ) (k v : ℕ) → k < length out → take k out ++ (v ∷ M) ≡ W → take (k + 1) (set out k v) ++ M ≡ W
 filled out M W k v b e = rw (add-one, take-suc-set out k v b, append-assoc) e
 
 pub full : (out W : List ℕ) (k : ℕ) → length out ≤ k → take k out ++ [] ≡ W → out ≡ W
 full out W k h e = sym (take-all k out h) ∙ sym (append-nil (take k out)) ∙ e
 
-pub scale-step : (q c : ℕ) (r : List ℕ) (k : ℕ) → k < length r → scaled q c (drop k r) ≡ productOf q c (getD r k 0) ∷ scaled q c (drop (k + 1) r)
-unfolding scaled
-scale-step q c r k h = rw (drop-cons r k 0 h, add-one k)
+cross-step : (q y x : ℕ) (r s : List ℕ) (k : ℕ) → k < length r → k < length s
+    → crossed q y x (drop k r) (drop k s) ≡ crossOf q y (getD r k 0) x (getD s k 0) ∷ crossed q y x (drop (k + 1) r) (drop (k + 1) s)
+unfolding crossed
+cross-step q y x r s k h l = rw (drop-cons r k 0 h, drop-cons s k 0 l, add-one k)
 
-pub scale-end : (q c : ℕ) (r : List ℕ) (k : ℕ) → length r ≤ k → scaled q c (drop k r) ≡ []
-unfolding scaled
-scale-end q c r k h = rw (drop-of-length-le r h)
-
-fuse-step : (q m : ℕ) (r s : List ℕ) (k : ℕ) → k < length r → k < length s
-    → fused q m (drop k r) (drop k s) ≡ mulAddOf q (getD r k 0) m (getD s k 0) ∷ fused q m (drop (k + 1) r) (drop (k + 1) s)
-unfolding fused
-fuse-step q m r s k h l = rw (drop-cons r k 0 h, drop-cons s k 0 l, add-one k)
-
-pub fuse-end : (q m : ℕ) (r s : List ℕ) (k : ℕ) → length r ≤ k → fused q m (drop k r) s ≡ []
-unfolding fused
-fuse-end q m r s k h = rw (drop-of-length-le r h)
+pub cross-end : (q y x : ℕ) (r s : List ℕ) (k : ℕ) → length r ≤ k → crossed q y x (drop k r) s ≡ []
+unfolding crossed
+cross-end q y x r s k h = rw (drop-of-length-le r h)
 
 -- one place of r is replaced, and what comes after it is as it was
-pub fuse-next : (q m : ℕ) (r s W : List ℕ) (k : ℕ) → k < length r → k < length s → take k r ++ fused q m (drop k r) (drop k s) ≡ W
-    → (let v : ℕ = mulAddOf q (getD r k 0) m (getD s k 0) in take (k + 1) (set r k v) ++ fused q m (drop (k + 1) (set r k v)) (drop (k + 1) s) ≡ W)
-fuse-next q m r s W k h l e =
-    let v : ℕ = mulAddOf q (getD r k 0) m (getD s k 0) in
+pub cross-next : (q y x : ℕ) (r s W : List ℕ) (k : ℕ) → k < length r → k < length s → take k r ++ crossed q y x (drop k r) (drop k s) ≡ W
+    → (let v : ℕ = crossOf q y (getD r k 0) x (getD s k 0) in take (k + 1) (set r k v) ++ crossed q y x (drop (k + 1) (set r k v)) (drop (k + 1) s) ≡ W)
+cross-next q y x r s W k h l e =
+    let v : ℕ = crossOf q y (getD r k 0) x (getD s k 0) in
     let t : drop (k + 1) (set r k v) ≡ drop (k + 1) r = drop-set-lt (k + 1) r k v (omega arith) in
-    ap (λ (x : List ℕ). take (k + 1) (set r k v) ++ fused q m x (drop (k + 1) s)) t
-    ∙ filled r (fused q m (drop (k + 1) r) (drop (k + 1) s)) W k v h (ap (λ (x : List ℕ). take k r ++ x) (sym (fuse-step q m r s k h l)) ∙ e)
+    ap (λ (z : List ℕ). take (k + 1) (set r k v) ++ crossed q y x z (drop (k + 1) s)) t
+    ∙ filled r (crossed q y x (drop (k + 1) r) (drop (k + 1) s)) W k v h (ap (λ (z : List ℕ). take k r ++ z) (sym (cross-step q y x r s k h l)) ∙ e)
 
 -- ---- sizes
 
-pub length-scaled : (q c : ℕ) (r : List ℕ) → length (scaled q c r) ≡ length r
-unfolding scaled
-length-scaled q c [] = refl
-length-scaled q c (x ∷ r) = ap suc (length-scaled q c r)
-
-length-fused : (q m : ℕ) (r s : List ℕ) → length (fused q m r s) ≡ length r
-unfolding fused
-length-fused q m [] s = refl
-length-fused q m (x ∷ r) [] = refl
-length-fused q m (x ∷ r) (y ∷ s) = ap suc (length-fused q m r s)
+length-crossed : (q y x : ℕ) (r s : List ℕ) → length (crossed q y x r s) ≡ length r
+unfolding crossed
+length-crossed q y x [] s = refl
+length-crossed q y x (a ∷ r) [] = refl
+length-crossed q y x (a ∷ r) (b ∷ s) = ap suc (length-crossed q y x r s)
 
 pub length-cleared : (q p : ℕ) (s r : List ℕ) → length (cleared q p s r) ≡ length r
 unfolding cleared
 length-cleared q p s r = go (eqb (getD r p 0) 0)
   where
-    go : (t : Bool) → length (cond t r (fused q (oppositeOf q (getD r p 0)) r s)) ≡ length r
+    go : (t : Bool) → length (cond t r (crossed q (getD s p 0) (getD r p 0) r s)) ≡ length r
     go true = refl
-    go false = length-fused q (oppositeOf q (getD r p 0)) r s
+    go false = length-crossed q (getD s p 0) (getD r p 0) r s
 
 pub length-row : (cols i k : ℕ) (T : List ℕ) → k ≡ cols → i * cols + cols ≤ length T → length (take k (drop (i * cols) T)) ≡ cols
 length-row cols i k T e h = length-take-le k (drop (i * cols) T) (omega (arith, length-drop (i * cols) T)) ∙ e
@@ -178,26 +165,6 @@ module _ (b : ℕ) (T : List ℕ) where
       ap₂ (λ (u v : List ℕ). take b T ++ (u ++ v)) e (drop-of-length-le (drop b T) l)
       ∙ ap (λ (u : List ℕ). take b T ++ u) (append-nil z)
 
--- ---- the pivot's row, scaled, at the front of an array
-
-module _ (q cols i k c : ℕ) (T ys Z : List ℕ) (e : k ≡ cols) (h : i * cols + cols ≤ length T) (y : ys ≡ scaled q c (take k (drop (i * cols) T))) where
-  front-size : length ys ≡ cols
-  front-size = ap length y ∙ length-scaled q c (take k (drop (i * cols) T)) ∙ length-row cols i k T e h
-
-  pub front-length : length (take cols (ys ++ Z)) ≡ cols
-  front-length = ap length (take-at ys Z cols front-size) ∙ front-size
-
-  pub front-room : cols ≤ length (ys ++ Z)
-  front-room = omega (arith, length-append ys Z, front-size)
-
-  pub front-row : (p : ℕ) → p < cols → p ≡ pivotOf (rowOf cols T i) → c ≡ inverseOf q (getD T (i * cols + p) 0) → take cols (ys ++ Z) ≡ pivotRow q
-      (rowOf cols T i)
-  front-row p l ep ec =
-      let g : getD T (i * cols + p) 0 ≡ getD (rowOf cols T i) p 0 = sym (getD-take cols (drop (i * cols) T) p 0 l ∙ getD-drop (i * cols) T p 0) in
-      take-at ys Z cols front-size ∙ y ∙ ap (λ (n : ℕ). scaled q c (take n (drop (i * cols) T))) e
-      ∙ ap (λ (n : ℕ). scaled q n (rowOf cols T i))
-      (ec ∙ ap (inverseOf q) (g ∙ ap (λ (x : ℕ). getD (rowOf cols T i) x 0) ep))
-
 -- ---- a list put in front of another
 
 module _ (A B Z : List ℕ) (m : ℕ) (e : A ≡ B) (l : m ≡ length B) where
@@ -226,7 +193,7 @@ module _ (q rows cols i : ℕ) (T : List ℕ) where
   pub none-left : (from : ℕ) → from ≡ rows → hasPivot rows cols i T ≡ true → eliminatedFrom q rows cols from i T ≡ T
   unfolding eachRow
   none-left from h e =
-      let f : List ℕ → List ℕ = cleared q (pivotOf (rowOf cols T i)) (pivotRow q (rowOf cols T i)) in
+      let f : List ℕ → List ℕ = cleared q (pivotOf (rowOf cols T i)) (rowOf cols T i) in
       let z : rows - from ≡ 0 = omega (arith, h) in
       some-pivot from e ∙ ap (λ (n : ℕ). take (from * cols) T ++ eachRow f n cols (drop (from * cols) T)) z ∙ take-append-drop (from * cols) T
 
@@ -240,12 +207,12 @@ module _ (q rows cols i : ℕ) (T : List ℕ) where
       go : (t : Bool) → length (cond t (clearedBy q rows cols from r T) T) ≡ length T
       go true =
           let n : from * cols ≤ length T = rows-fit rows cols from (length T) h e in
-          length-append (take (from * cols) T) (eachRow (cleared q (pivotOf r) (pivotRow q r)) (rows - from) cols (drop (from * cols) T))
+          length-append (take (from * cols) T) (eachRow (cleared q (pivotOf r) r) (rows - from) cols (drop (from * cols) T))
           ∙ omega (
             arith,
             length-take-le (from * cols) T n,
             length-drop (from * cols) T,
-            length-eachRow (cleared q (pivotOf r) (pivotRow q r)) (length-cleared q (pivotOf r) (pivotRow q r)) cols (rows - from) (drop (from * cols) T)
+            length-eachRow (cleared q (pivotOf r) r) (length-cleared q (pivotOf r) r) cols (rows - from) (drop (from * cols) T)
                 (rest-size rows cols from T h e),
           )
       go false = refl

@@ -1,18 +1,19 @@
--- Values beside the rows of a table, one each: what elimination by a row takes off the others it takes off their values too, so that a row that ends as 0
--- has its combination of the values beside it. And a sweep: elimination by some of the rows, one after the other.
+-- Values beside the rows of a table, one each: what elimination by a row does to the others it does to their values too, so that a row that ends as 0 has its
+-- combination of the values beside it, times what the row was multiplied by. And a sweep: elimination by some of the rows, one after the other.
 use Prim.Native.Nat.{ℕ, zero, suc, _+_, _*_}
 use mathlib.Core.Bool.{Bool, cond, _&&_}
 use mathlib.Core.List.{List}
 use lib.Dec.{eqb}
 use lib.ListN.{length}
-use Rattle.residues.specs.Field.{oppositeOf, productOf, mulAddOf, inverseOf}
+use Rattle.residues.specs.Field.{crossOf}
 use Rattle.lists.specs.Lists.{at, tab}
 use Rattle.matrices.specs.Tables.{rowOf, pivotOf, hasPivot, eliminated}
 
 -- the values after elimination by row i, which has its first number that is not 0 in column p
 unfoldable pub carriedBy : ℕ → ℕ → ℕ → ℕ → List ℕ → List ℕ → List ℕ
 carriedBy q cols i p T vs =
-    tab (length vs) (λ r. mulAddOf q (at vs r) (oppositeOf q (at T (r * cols + p))) (productOf q (inverseOf q (at T (i * cols + p))) (at vs i)))
+    tab (length vs)
+    (λ r. cond (eqb (at T (r * cols + p)) 0) (at vs r) (crossOf q (at T (i * cols + p)) (at vs r) (at T (r * cols + p)) (at vs i)))
 
 -- a row that is 0 changes nothing; neither are values changed that are not as many as the rows
 unfoldable pub carried : ℕ → ℕ → ℕ → ℕ → List ℕ → List ℕ → List ℕ

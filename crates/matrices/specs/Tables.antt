@@ -5,7 +5,7 @@ use mathlib.Core.Bool.{Bool, cond, _&&_}
 use mathlib.Core.List.{List, [], _∷_, _++_}
 use lib.Dec.{eqb, ltb, leb}
 use lib.ListN.{length, take, drop}
-use Rattle.residues.specs.Field.{oppositeOf, productOf, mulAddOf, inverseOf}
+use Rattle.residues.specs.Field.{crossOf}
 use Rattle.lists.specs.Lists.{at}
 
 -- row j, and all rows
@@ -25,24 +25,15 @@ unfoldable pub pivotOf : List ℕ → ℕ
 pivotOf [] = 0
 pivotOf (x ∷ r) = cond (eqb x 0) (suc (pivotOf r)) 0
 
--- c r
-unfoldable pub scaled : ℕ → ℕ → List ℕ → List ℕ
-scaled q c [] = []
-scaled q c (x ∷ r) = productOf q c x ∷ scaled q c r
+-- y r less x s
+unfoldable pub crossed : ℕ → ℕ → ℕ → List ℕ → List ℕ → List ℕ
+crossed q y x [] s = []
+crossed q y x (a ∷ r) [] = a ∷ r
+crossed q y x (a ∷ r) (b ∷ s) = crossOf q y a x b ∷ crossed q y x r s
 
--- r + m s
-unfoldable pub fused : ℕ → ℕ → List ℕ → List ℕ → List ℕ
-fused q m [] s = []
-fused q m (x ∷ r) [] = x ∷ r
-fused q m (x ∷ r) (y ∷ s) = mulAddOf q x m y ∷ fused q m r s
-
--- r less the multiple of s, which has 1 in column p, that makes column p 0
+-- r times the number of s in column p less s times that of r: column p becomes 0. A row that has 0 there stays as it is
 unfoldable pub cleared : ℕ → ℕ → List ℕ → List ℕ → List ℕ
-cleared q p s r = cond (eqb (at r p) 0) r (fused q (oppositeOf q (at r p)) r s)
-
--- a row divided by its number at the pivot
-abbrev pub pivotRow : ℕ → List ℕ → List ℕ
-pivotRow q r = scaled q (inverseOf q (at r (pivotOf r))) r
+cleared q p s r = cond (eqb (at r p) 0) r (crossed q (at s p) (at r p) r s)
 
 -- f of each row
 unfoldable pub eachRow : (List ℕ → List ℕ) → ℕ → ℕ → List ℕ → List ℕ
@@ -56,7 +47,7 @@ hasPivot rows cols i T = shaped rows cols T && ltb i rows && ltb (pivotOf (rowOf
 -- the rows from number `from` on, each cleared by the row r in r's pivot column
 abbrev pub clearedBy : ℕ → ℕ → ℕ → ℕ → List ℕ → List ℕ → List ℕ
 clearedBy q rows cols from r T =
-    take (from * cols) T ++ eachRow (cleared q (pivotOf r) (pivotRow q r)) (rows - from) cols (drop (from * cols) T)
+    take (from * cols) T ++ eachRow (cleared q (pivotOf r) r) (rows - from) cols (drop (from * cols) T)
 
 -- the same by row i, where that is not 0
 unfoldable pub eliminatedFrom : ℕ → ℕ → ℕ → ℕ → ℕ → List ℕ → List ℕ

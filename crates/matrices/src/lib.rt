@@ -5,7 +5,7 @@ ghost use mathlib.Core.Bool.{cond};
 ghost use lib.Dec.{eqb};
 ghost use lib.ListN.{length};
 ghost use Rattle.refusals.specs.Codes.{firstOf, verdictCode, outcome};
-ghost use Rattle.matrices.specs.Tables.{rowOf, rowsOf, pivotOf, scaled, fused, cleared, eachRow};
+ghost use Rattle.matrices.specs.Tables.{rowOf, rowsOf, pivotOf, crossed, cleared, eachRow};
 ghost use Rattle.matrices.specs.Tables.{hasPivot, clearedBy, eliminatedFrom, eliminated, reducedFrom, pivotsFrom};
 ghost use Rattle.matrices.specs.Sweeps.{carriedBy, carried};
 ghost use Rattle.matrices.specs.Rank.{rankOf};
@@ -32,30 +32,19 @@ fn pivot(row: &[Symbol]) -> usize
     k
 }
 
-fn scale(q: Symbol, c: Symbol, row: &[Symbol], out: &mut [Symbol])
-    requires { ⌜ length (now row) ≡ length (now out) ⌝ }
-    ensures { λ _. ⌜ now (out .exit) ≡ scaled q c (now (row .entry)) ⌝ }
-{
-    let mut k = 0;
-    while k < row.len() {
-        out[k] = arithmetic::mul_mod(q, c, row[k]);
-        k += 1;
-    }
-}
-
-// Adds m times s to a row.
-fn fuse(q: Symbol, m: Symbol, row: &mut [Symbol], s: &[Symbol])
+// Makes y times a row less x times s of the row.
+fn cross(q: Symbol, y: Symbol, x: Symbol, row: &mut [Symbol], s: &[Symbol])
     requires { ⌜ length (now row) ≡ length (now s) ⌝ }
-    ensures { λ _. ⌜ now (row .exit) ≡ fused q m (now (row .entry)) (now (s .entry)) ⌝ }
+    ensures { λ _. ⌜ now (row .exit) ≡ crossed q y x (now (row .entry)) (now (s .entry)) ⌝ }
 {
     let mut k = 0;
     while k < row.len() {
-        row[k] = arithmetic::mul_add_mod(q, row[k], m, s[k]);
+        row[k] = arithmetic::cross_mod(q, y, row[k], x, s[k]);
         k += 1;
     }
 }
 
-// Makes column p of a row 0 by s, which has 1 there. A row that is 0 there is left alone.
+// Makes column p of a row 0 by s. A row that is 0 there is left alone.
 fn clear(q: Symbol, p: usize, row: &mut [Symbol], s: &[Symbol])
     requires { ⌜ (length (now row) ≡ length (now s)) × (p < length (now row)) ⌝ }
     ensures { λ _. ⌜ now (row .exit) ≡ cleared q p (now (s .entry)) (now (row .entry)) ⌝ }
@@ -64,7 +53,7 @@ fn clear(q: Symbol, p: usize, row: &mut [Symbol], s: &[Symbol])
     if x == 0 {
         return;
     }
-    fuse(q, arithmetic::opposite_mod(q, x), row, s);
+    cross(q, s[p], x, row, s);
 }
 
 fn clear_rows(q: Symbol, rows: usize, cols: usize, p: usize, table: &mut [Symbol], s: &[Symbol])
@@ -95,14 +84,13 @@ fn clear_from(
 {
     let b = i * cols;
     let e = b + cols;
-    let c = arithmetic::inverse_mod(q, table[b + p]);
-    let mut s = [0 as Symbol; 48];
-    scale(q, c, &table[b..e], &mut s[..cols]);
+    let mut s = [0 as Symbol; MOST];
+    copy_all(&table[b..e], &mut s[..cols]);
     let start = from * cols;
     clear_rows(q, rows - from, cols, p, &mut table[start..], &s[..cols]);
 }
 
-// Clears the rows from number `from` on by row i, where that is not 0; whether it is not. With no row left to clear, no inverse is taken.
+// Clears the rows from number `from` on by row i, where that is not 0; whether it is not.
 fn eliminate_from(
     q: Symbol,
     rows: usize,
@@ -150,17 +138,19 @@ fn carry_by(q: Symbol, cols: usize, i: usize, p: usize, table: &[Symbol], values
     requires { ⌜ (length (now values) ≤ 48) × (cols ≤ 48) × (length (now values) * cols ≡ length (now table)) × (i < length (now values)) × (p < cols) ⌝ }
     ensures { λ _. ⌜ now (values .exit) ≡ carriedBy q cols i p (now (table .entry)) (now (values .entry)) ⌝ }
 {
-    let c = arithmetic::inverse_mod(q, table[i * cols + p]);
-    let v = arithmetic::mul_mod(q, c, values[i]);
+    let y = table[i * cols + p];
+    let v = values[i];
     let mut r = 0;
     while r < values.len() {
-        let m = arithmetic::opposite_mod(q, table[r * cols + p]);
-        values[r] = arithmetic::mul_add_mod(q, values[r], m, v);
+        let x = table[r * cols + p];
+        if x != 0 {
+            values[r] = arithmetic::cross_mod(q, y, values[r], x, v);
+        }
         r += 1;
     }
 }
 
-// Takes off the values beside the rows, one each, what elimination by row i takes off the rows. It reads the table as it is before that.
+// Does to the values beside the rows, one each, what elimination by row i does to the rows. It reads the table as it is before that.
 pub fn carry(q: Symbol, rows: usize, cols: usize, i: usize, table: &[Symbol], values: &mut [Symbol])
     ensures { λ _. ⌜ now (values .exit) ≡ carried q rows cols i (now (table .entry)) (now (values .entry)) ⌝ }
 {

@@ -1,5 +1,5 @@
-// Elimination by row i: every row loses the multiple of the old row i that makes its number in the pivot column 0, worked out anew from a copy.
-use crate::numbers::inverse;
+// Elimination by row i: every row that is not 0 in the pivot column is multiplied by row i's number there, and loses the multiple of the old row i that
+// makes its own number there 0. Worked out anew from a copy.
 use crate::numbers::mul_add;
 use crate::numbers::opposite;
 use crate::numbers::skip;
@@ -43,43 +43,30 @@ pub fn length(case: usize) -> usize {
     product(s.rows, s.cols)
 }
 
-// The row that is eliminated by, the first column in which it is not 0, and the inverse of its number there.
+// The row that is eliminated by, and the first column in which it is not 0: past the last where there is none.
 struct Pivot {
     row: usize,
     column: usize,
-    inverse: usize,
 }
 
-// Where the row is 0, the inverse is taken to be 0, so that every multiple is.
-fn find(s: Shape, t: &[Symbol], i: usize) -> Pivot {
-    let p = first_column(s.cols, t, i);
-    if p >= s.cols {
-        return Pivot {
-            row: i,
-            column: p,
-            inverse: 0,
-        };
+// What row j has in the pivot column: 0 where there is no pivot.
+fn at_pivot(s: Shape, old: &[Symbol], by: Pivot, j: usize) -> usize {
+    if by.column >= s.cols {
+        return 0;
     }
-    let a = entry(s.cols, t, i, p);
-    Pivot {
-        row: i,
-        column: p,
-        inverse: inverse(s.q, a),
-    }
+    entry(s.cols, old, j, by.column)
 }
 
-// What elimination makes of place n: its number less the multiple of the row's in the same column.
+// What elimination makes of place n: its number times the pivot, less the multiple of the row's in the same column.
 fn expected(s: Shape, old: &[Symbol], by: Pivot, n: usize) -> usize {
-    let cols = s.cols;
-    let j = quotient(n, cols);
-    let k = residue(n, cols);
-    let m = mul_add(s.q, 0, entry(cols, old, j, by.column), by.inverse);
-    mul_add(
-        s.q,
-        at(old, n),
-        opposite(s.q, m),
-        entry(cols, old, by.row, k),
-    )
+    let x = at_pivot(s, old, by, quotient(n, s.cols));
+    if x == 0 {
+        return at(old, n);
+    }
+    let k = residue(n, s.cols);
+    let taken = mul_add(s.q, 0, x, entry(s.cols, old, by.row, k));
+    let y = at_pivot(s, old, by, by.row);
+    mul_add(s.q, opposite(s.q, taken), y, at(old, n))
 }
 
 // Row i and the pivot column are 0 afterwards.
@@ -111,7 +98,10 @@ fn holds(s: Shape, old: &[Symbol], t: &[Symbol], by: Pivot) -> bool {
 }
 
 fn compare(s: Shape, old: &[Symbol], t: &[Symbol], i: usize, found: bool) -> bool {
-    let by = find(s, old, i);
+    let by = Pivot {
+        row: i,
+        column: first_column(s.cols, old, i),
+    };
     let has = by.column < s.cols;
     if found != has {
         return false;

@@ -29,11 +29,6 @@ pub fn power(q: usize, a: usize, n: usize) -> usize {
     result
 }
 
-// The inverse of a modulo the prime q, by Fermat: a to the power q - 1 is 1.
-pub fn inverse(q: usize, a: usize) -> usize {
-    power(q, a, wrapping_sub_usize(q, 2))
-}
-
 // Minus a modulo q, for an a below q.
 pub fn opposite(q: usize, a: usize) -> usize {
     residue(wrapping_sub_usize(q, a), q)

@@ -1,26 +1,29 @@
--- What the decoder's sweep leaves: a total is decodable just where its row ends as 0, and then it is minus the value beside it.
+-- What the decoder's sweep leaves: a total is decodable just where its row ends as 0, and then it is minus the value beside it, divided by the unit there.
 use Prim.Native.Nat.{ℕ, _+_, _-_, _*_, _/_, _%_, _≤_, _<_}
 use mathlib.Core.Path.{_≡_, refl, sym, ap, ap₂, _∙_, subst}
 use mathlib.Core.Bool.{Bool, true, false, not, _&&_, _||_}
 use mathlib.Core.List.{List, [], _∷_, _++_}
-use native.Mathlib.Nat.{zero-add, sub-zero, mod-lt, mod-eq-of-lt}
+use native.Mathlib.Nat.{zero-add, sub-zero, mod-eq-of-lt}
 use native.Mathlib.Omega.{arith}
 use lib.Dec.{T, T-not, ltb, ltb→lt}
 use lib.ListN.{length, length-append, List·getD-append}
 use lib.Seq.{getD-append-add}
 use borrow.Author.Tests.{ltb-false, not-true}
 use Rattle.lists.specs.Bits.{hasBit}
-use Rattle.residues.specs.Field.{oppositeOf}
+use Rattle.residues.specs.Field.{oppositeOf, productOf, inverseOf}
+use Rattle.residues.specs.Primes.{Prime}
 use Rattle.lists.specs.Search.{allTo}
 use Rattle.residues.proofs.PrimeLaws.{prime-pos}
 use Rattle.lists.proofs.Searches.{T-ext, T→true, all-at, T-or, all-cong}
-use Rattle.residues.proofs.Congruence.{to-mod, of-eq, c-trans, residue-mod}
+use Rattle.residues.proofs.Congruence.{Cong, to-mod, of-eq, c-sym, c-trans, c-mul-left, c-mul-right, cong-zero, cong-one, zero-not-one, residue-mod}
+use Rattle.residues.proofs.InverseLaws.{inverse-one}
+use Rattle.residues.proofs.Units.{IsUnit}
 use Rattle.lists.specs.Lists.{at, All, zeros, tab, picked}
 use Rattle.matrices.specs.Linear.{Vector}
 use Rattle.matrices.specs.Rank.{inSpan}
 use Rattle.matrices.specs.Tables.{rowOf, pivotOf}
 use Rattle.matrices.proofs.Notions.{dotN, dot}
-use Rattle.lists.proofs.ListLaws.{length-zeros, el-zeros, length-tab, tab-cong, all-picked, picked-cong}
+use Rattle.lists.proofs.ListLaws.{length-zeros, el-zeros, at-tab, length-tab, tab-cong, all-picked, picked-cong}
 use Rattle.matrices.proofs.Rows.{pivot-none}
 use Rattle.matrices.proofs.Spans.{in-span-iff}
 use Rattle.matrices.proofs.Elimination.{Table}
@@ -35,13 +38,22 @@ use Rattle.networks.specs.Grids.{relayEntry, totalEntry, entryOf, gridOf
 use Rattle.matrices.specs.Sweeps.{sweptTable, sweptValues}
 use Rattle.networks.proofs.RingLaws.{sound, few-columns}
 use Rattle.networks.proofs.GridLaws.{entry-total, entry-relay}
+use Rattle.networks.proofs.ValueLaws.{unitAt, unit-low, unit-high}
 use Rattle.networks.proofs.GridRows.{row-grid, relay-row, total-row, number-below}
 use Rattle.matrices.proofs.Sweeping.{swept-table, pivot-left, values-apart}
 use Rattle.matrices.proofs.Rows.{minus}
 use Rattle.networks.specs.declared.Ring.{Ring}
 
-opposite-below : (q x : ℕ) → 0 < q → oppositeOf q x < q
-opposite-below q x pos = subst (λ (z : ℕ). z < q) (sym (residue-mod q (q - x % q) pos)) (mod-lt (q - x % q) pos)
+-- t is minus v divided by u
+quotient-is : (q : ℕ) → Prime q → (u v t : ℕ) → IsUnit q u → Cong q ((q - 1) * v) (u * t) → productOf q (oppositeOf q v) (inverseOf q u) ≡ t % q
+quotient-is q pr u v t unit e =
+    let pos : 0 < q = prime-pos pr in
+    let some : u % q ≡ 0 → ⊥
+    = λ z. zero-not-one q (pr .two) (c-trans (of-eq (omega arith)) (c-trans (c-sym (c-mul-right (unit .inverse) (cong-zero q u z))) (unit .one))) in
+    let one : Cong q (u * inverseOf q u) 1 = cong-one q (pr .two) (u * inverseOf q u) (inverse-one q u pr some .1) in
+    residue-mod q (oppositeOf q v * inverseOf q u) pos
+    ∙ to-mod
+    (c-trans (c-mul-right (inverseOf q u) (c-trans (minus q pos v) e)) (c-trans (of-eq (omega arith)) (c-trans (c-mul-left t one) (of-eq (omega arith)))))
 
 module _ (R : Ring) (K A : List ℕ) (ready : Ready R K A) (reported : ℕ) (Y : List ℕ) where
   abbrev C : Network
@@ -62,6 +74,9 @@ module _ (R : Ring) (K A : List ℕ) (ready : Ready R K A) (reported : ℕ) (Y :
 
   abbrev beside : List ℕ
   beside = zeros (R .parts) ++ Y
+
+  abbrev units : List ℕ
+  units = tab rows (unitAt (R .parts))
 
   start-is : start ≡ tab (rows * cols) (λ t. entryOf (networkOf R K A) 0 (t / cols) (t % cols))
   unfolding gridOf
@@ -102,8 +117,12 @@ module _ (R : Ring) (K A : List ℕ) (ready : Ready R K A) (reported : ℕ) (Y :
   abbrev after : ℕ → List ℕ
   after = sweptTable (R .q) rows cols (R .parts) (hasBit reported) start
 
-  abbrev values : ℕ → List ℕ
-  values = sweptValues (R .q) rows cols (R .parts) (hasBit reported) start beside
+  abbrev swept : List ℕ → List ℕ → List ℕ
+  swept T v = sweptValues (R .q) rows cols (R .parts) (hasBit reported) T v (R .size)
+
+  -- a total, from the values and units that are left
+  abbrev totalOf : List ℕ → List ℕ → ℕ → ℕ
+  totalOf ws us s = productOf (R .q) (oppositeOf (R .q) (at ws s)) (inverseOf (R .q) (at us s))
 
   -- ---- what is swept by
 
@@ -179,7 +198,7 @@ module _ (R : Ring) (K A : List ℕ) (ready : Ready R K A) (reported : ℕ) (Y :
         go = mathlib.Core.Logic.⊎-elim open-or (ltb→lt (at Y j) (R .q))
 
     pub decoded-swept : T (decodable (networkOf R K A) reported) → (s : ℕ) → s < R .parts
-        → oppositeOf (R .q) (at (values (R .size)) s) ≡ decoded (networkOf R K A) reported Y s
+        → totalOf (swept start beside) (swept start units) s ≡ decoded (networkOf R K A) reported Y s
     unfolding kept
     decoded-swept t s l =
         let (M, _, hits) = sums-solved (networkOf R K A) ok reported Y (λ j b k. arrived-below j b (kept-arrived (networkOf R K A) ok reported j k)) in
@@ -192,7 +211,10 @@ module _ (R : Ring) (K A : List ℕ) (ready : Ready R K A) (reported : ℕ) (Y :
         = swept-table (R .q) (ready .prime) rows cols (R .parts) (hasBit reported) start start-table (R .size) (omega arith) in
         let zero-row : dotN (rowOf cols (after (R .size)) s) M ≡ 0
         = pivot-none (rowOf cols (after (R .size)) s) (omega (arith, tabK .valid s (omega arith) .size)) M in
-        let apart = values-apart (R .q) (ready .prime) rows cols (R .parts) (hasBit reported) start start-table beside M beside-size
+        let (unit, apart) = values-apart (R .q) (ready .prime) rows cols (R .parts) (hasBit reported) start start-table units beside M
+        (length-tab rows _)
+        (λ i b. at-tab rows (unitAt (R .parts)) (R .parts + i) b ∙ sym (unit-high (R .parts) (R .parts + i) (omega arith)))
+        beside-size
         (λ i b k.
         let j : i < R .size = omega arith in
         let k′ : T (kept (networkOf R K A) reported i)
@@ -202,20 +224,20 @@ module _ (R : Ring) (K A : List ℕ) (ready : Ready R K A) (reported : ℕ) (Y :
         ∙ hits i j k′
         ∙ sym (mod-eq-of-lt (arrived-below i j (kept-arrived (networkOf R K A) ok reported i k′)))
         ∙ ap (λ (z : ℕ). z % R .q) (sym (beside-relay i)))
-        (R .size) (omega arith) s (omega arith) in
-        sym (mod-eq-of-lt (opposite-below (R .q) (at (values (R .size)) s) pos))
-        ∙ to-mod
-        (c-trans (minus (R .q) pos (at (values (R .size)) s))
-        (c-trans (of-eq (sym (ap (λ (z : ℕ). z + (R .q - 1) * at (values (R .size)) s) zero-row ∙ zero-add ((R .q - 1) * at (values (R .size)) s))))
+        (R .size) (omega arith) s (omega arith) (at-tab rows (unitAt (R .parts)) s (omega arith) ∙ sym (unit-low (R .parts) s l)) in
+        let u : ℕ = at (swept start units) s in
+        let v : ℕ = at (swept start beside) s in
+        quotient-is (R .q) (ready .prime) u v (dotN (totalRow (networkOf R K A) s) M) unit
+        (c-trans (of-eq (sym (ap (λ (z : ℕ). z + (R .q - 1) * v) zero-row ∙ zero-add ((R .q - 1) * v))))
         (c-trans apart
         (of-eq
-        (ap₂ (λ (r : List ℕ) (z : ℕ). dotN r M + (R .q - 1) * z) (total-here s l) (beside-total s l)
-        ∙ omega arith)))))
+        (ap₂ (λ (r : List ℕ) (z : ℕ). u * (dotN r M + (R .q - 1) * z)) (total-here s l) (beside-total s l)
+        ∙ omega arith))))
         ∙ sym (decoded-by (networkOf R K A) ok reported t Y M hits s l)
 
   -- ---- the same of tables and values that are known by equations
 
-  module _ (T₁ w₁ : List ℕ) (n : ℕ) (filled : T₁ ≡ gridOf (networkOf R K A) 0 0 0 n) (numbers : n ≡ rows * cols) (written : w₁ ≡ beside) where
+  module _ (T₁ : List ℕ) (n : ℕ) (filled : T₁ ≡ gridOf (networkOf R K A) 0 0 0 n) (numbers : n ≡ rows * cols) where
     abbrev first-table : T₁ ≡ start
     first-table = filled ∙ ap (gridOf (networkOf R K A) 0 0 0) numbers
 
@@ -227,10 +249,10 @@ module _ (R : Ring) (K A : List ℕ) (ready : Ready R K A) (reported : ℕ) (Y :
         ∙ decodable-swept
 
     pub totals-are : length Y ≡ R .size → T (arrivedBelow (R .q) (R .size) reported Y) → T (decodable (networkOf R K A) reported)
-        → (w₂ : List ℕ) → w₂ ≡ sweptValues (R .q) rows cols (R .parts) (hasBit reported) T₁ w₁ (R .size) → (m : ℕ) → m ≡ R .parts
-        → tab m (λ s. oppositeOf (R .q) (at w₂ s)) ≡ tab (R .parts) (decoded (networkOf R K A) reported Y)
-    totals-are many below t w₂ e m f =
-        ap (λ (k : ℕ). tab k (λ s. oppositeOf (R .q) (at w₂ s))) f
-        ∙ ap (λ (w : List ℕ). tab (R .parts) (λ s. oppositeOf (R .q) (at w s)))
-        (e ∙ ap₂ (λ (T w : List ℕ). sweptValues (R .q) rows cols (R .parts) (hasBit reported) T w (R .size)) first-table written)
-        ∙ tab-cong (R .parts) (λ s. oppositeOf (R .q) (at (values (R .size)) s)) (decoded (networkOf R K A) reported Y) (λ s l. decoded-swept many below t s l)
+        → (w₁ u₁ w₂ u₂ : List ℕ) (l m : ℕ) → w₁ ≡ beside → u₁ ≡ tab l (unitAt (R .parts)) → l ≡ rows → w₂ ≡ swept T₁ w₁ → u₂ ≡ swept T₁ u₁ → m ≡ R .parts
+        → tab m (totalOf w₂ u₂) ≡ tab (R .parts) (decoded (networkOf R K A) reported Y)
+    totals-are many below t w₁ u₁ w₂ u₂ l m ew eu el e g f =
+        ap (λ (k : ℕ). tab k (totalOf w₂ u₂)) f
+        ∙ ap₂ (λ (w u : List ℕ). tab (R .parts) (totalOf w u)) (e ∙ ap₂ swept first-table ew)
+        (g ∙ ap₂ swept first-table (eu ∙ ap (λ (n : ℕ). tab n (unitAt (R .parts))) el))
+        ∙ tab-cong (R .parts) (totalOf (swept start beside) (swept start units)) (decoded (networkOf R K A) reported Y) (λ s l. decoded-swept many below t s l)

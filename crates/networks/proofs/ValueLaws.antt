@@ -38,55 +38,53 @@ cleared-is cols r e b h = ap (λ (n : ℕ). not (ltb (pivotOf r) n)) (sym e) ∙
 
 -- ---- the sweep
 
-module _ (q rows cols first reported : ℕ) (T vs : List ℕ) where
+module _ (q rows cols first reported : ℕ) (T : List ℕ) where
+  abbrev after : ℕ → List ℕ
+  after = sweptTable q rows cols first (hasBit reported) T
+
+  abbrev beside : List ℕ → ℕ → List ℕ
+  beside = sweptValues q rows cols first (hasBit reported) T
+
+  -- one relay more, which has arrived or not
+  table-next : (k : ℕ) (x : Bool) → hasBit reported k ≡ x → cond x (eliminated q rows cols (first + k) (after k)) (after k) ≡ after (k + 1)
+  unfolding sweptTable
+  table-next k x e = ap (λ (x : Bool). cond x (eliminated q rows cols (first + k) (after k)) (after k)) (sym e) ∙ ap after (sym (add-one k))
+
+  values-next : (vs : List ℕ) (k : ℕ) (x : Bool) → hasBit reported k ≡ x
+      → cond x (carried q rows cols (first + k) (after k) (beside vs k)) (beside vs k) ≡ beside vs (k + 1)
+  unfolding sweptValues
+  values-next vs k x e =
+      ap (λ (x : Bool). cond x (carried q rows cols (first + k) (after k) (beside vs k)) (beside vs k)) (sym e) ∙ ap (beside vs) (sym (add-one k))
+
   -- what the loop over the relays keeps
-  pub record Swept (U ws : List ℕ) (k : ℕ) : Type 0 where
-    pub table : U ≡ sweptTable q rows cols first (hasBit reported) T k
-    pub values : ws ≡ sweptValues q rows cols first (hasBit reported) T vs k
+  pub record Swept (vs us U ws xs : List ℕ) (k : ℕ) : Type 0 where
+    pub table : U ≡ after k
+    pub values : ws ≡ beside vs k
+    pub units : xs ≡ beside us k
 
-  pub swept-start : Swept T vs 0
+  pub swept-start : (vs us : List ℕ) → Swept vs us T vs us 0
   unfolding sweptTable sweptValues
-  swept-start = record { table = refl; values = refl }
+  swept-start vs us = record { table = refl; values = refl; units = refl }
 
-  pub swept-on : (U ws U′ ws′ : List ℕ) (k : ℕ) → hasBit reported k ≡ true → U′ ≡ eliminated q rows cols (first + k) U
-      → ws′ ≡ carried q rows cols (first + k) U ws
-      → Swept U ws k → Swept U′ ws′ (k + 1)
-  unfolding sweptTable sweptValues
-  swept-on U ws U′ ws′ k b e f s =
-      let z : suc k ≡ k + 1 = sym (add-one k) in
-      record {
-        table =
-            e ∙ ap (eliminated q rows cols (first + k)) (s .table)
-            ∙ sym (ap (λ (x : Bool). cond x (eliminated q rows cols (first + k) (sweptTable q rows cols first (hasBit reported) T k))
-            (sweptTable q rows cols first (hasBit reported) T k)) b)
-            ∙ ap (sweptTable q rows cols first (hasBit reported) T) z;
-        values =
-            f ∙ ap₂ (λ (x y : List ℕ). carried q rows cols (first + k) x y) (s .table) (s .values)
-            ∙ sym (ap (λ (x : Bool). cond x (carried q rows cols (first + k) (sweptTable q rows cols first (hasBit reported) T k)
-            (sweptValues q rows cols first (hasBit reported) T vs k))
-            (sweptValues q rows cols first (hasBit reported) T vs k)) b)
-            ∙ ap (sweptValues q rows cols first (hasBit reported) T vs) z;
-      }
+  module _ (vs us U ws xs U′ ws′ xs′ : List ℕ) (k : ℕ) where
+    pub swept-on : hasBit reported k ≡ true → U′ ≡ eliminated q rows cols (first + k) U → ws′ ≡ carried q rows cols (first + k) U ws
+        → xs′ ≡ carried q rows cols (first + k) U xs → Swept vs us U ws xs k → Swept vs us U′ ws′ xs′ (k + 1)
+    swept-on b e f g s =
+        record {
+          table = e ∙ ap (eliminated q rows cols (first + k)) (s .table) ∙ table-next k true b;
+          values = f ∙ ap₂ (carried q rows cols (first + k)) (s .table) (s .values) ∙ values-next vs k true b;
+          units = g ∙ ap₂ (carried q rows cols (first + k)) (s .table) (s .units) ∙ values-next us k true b;
+        }
 
-  pub swept-past : (U ws U′ ws′ : List ℕ) (k : ℕ) → hasBit reported k ≡ false → U′ ≡ U → ws′ ≡ ws → Swept U ws k → Swept U′ ws′ (k + 1)
-  unfolding sweptTable sweptValues
-  swept-past U ws U′ ws′ k b e f s =
-      let z : suc k ≡ k + 1 = sym (add-one k) in
-      record {
-        table =
-            e ∙ s .table
-            ∙ sym (ap (λ (x : Bool). cond x (eliminated q rows cols (first + k) (sweptTable q rows cols first (hasBit reported) T k))
-            (sweptTable q rows cols first (hasBit reported) T k)) b)
-            ∙ ap (sweptTable q rows cols first (hasBit reported) T) z;
-        values =
-            f ∙ s .values
-            ∙ sym (ap (λ (x : Bool). cond x (carried q rows cols (first + k) (sweptTable q rows cols first (hasBit reported) T k)
-            (sweptValues q rows cols first (hasBit reported) T vs k))
-            (sweptValues q rows cols first (hasBit reported) T vs k)) b)
-            ∙ ap (sweptValues q rows cols first (hasBit reported) T vs) z;
-      }
+    pub swept-past : hasBit reported k ≡ false → U′ ≡ U → ws′ ≡ ws → xs′ ≡ xs → Swept vs us U ws xs k → Swept vs us U′ ws′ xs′ (k + 1)
+    swept-past b e f g s =
+        record {
+          table = e ∙ s .table ∙ table-next k false b;
+          values = f ∙ s .values ∙ values-next vs k false b;
+          units = g ∙ s .units ∙ values-next us k false b;
+        }
 
--- ---- the values that the sweep starts from
+-- ---- the values and units that the sweep starts from
 
 pub startAt : ℕ → List ℕ → ℕ → ℕ
 startAt n Y r = cond (ltb r n) 0 (at Y (r - n))
@@ -107,6 +105,15 @@ start-all n Y m e =
     (tab-at n (startAt n Y) (zeros n) (length-zeros n) (λ k l. sym (start-low n Y k l) ∙ sym (el-zeros n k)))
     (tab-at (length Y) (λ k. startAt n Y (n + k)) Y refl
     (λ k l. sym (start-high n Y (n + k) (omega arith)) ∙ (let z : n + k - n ≡ k = omega arith in ap (at Y) z)))
+
+abbrev pub unitAt : ℕ → ℕ → ℕ
+unitAt n r = cond (ltb r n) 1 0
+
+pub unit-low : (n r : ℕ) → r < n → 1 ≡ unitAt n r
+unit-low n r h = rw (lt-ltb r n h)
+
+pub unit-high : (n r : ℕ) → n ≤ r → 0 ≡ unitAt n r
+unit-high n r h = rw (le-ltb r n h)
 
 -- ---- whether a sum that has come is a symbol
 

@@ -7,7 +7,7 @@ ghost use lib.Dec.{ltb, T};
 ghost use lib.ListN.{length};
 ghost use Rattle.refusals.specs.Codes.{firstOf, verdictCode};
 ghost use Rattle.lists.specs.Bits.{hasBit};
-ghost use Rattle.residues.specs.Field.{oppositeOf};
+ghost use Rattle.residues.specs.Field.{oppositeOf, productOf, inverseOf};
 ghost use Rattle.lists.specs.Search.{allTo};
 ghost use Rattle.lists.specs.Lists.{at, zeros, tab};
 ghost use Rattle.matrices.specs.Tables.{rowOf, pivotOf, eliminated};
@@ -25,6 +25,8 @@ use crate::verdict::both_below;
 use crate::verdict::lengths_fit;
 use arithmetic::Symbol;
 use arithmetic::all_below;
+use arithmetic::inverse_mod;
+use arithmetic::mul_mod;
 use arithmetic::opposite_mod;
 use matrices::carry;
 use matrices::eliminate;
@@ -39,12 +41,22 @@ fn has_arrived(reported: u16, j: usize) -> bool
     (reported >> j as u32) & 1 == 1
 }
 
-// Clears every row by row i, where that is not 0, and carries the values along.
-fn sweep(q: Symbol, rows: usize, cols: usize, i: usize, table: &mut [Symbol], values: &mut [Symbol])
+// Clears every row by row i, where that is not 0, and carries values and units along.
+fn sweep(
+    q: Symbol,
+    rows: usize,
+    cols: usize,
+    i: usize,
+    table: &mut [Symbol],
+    values: &mut [Symbol],
+    units: &mut [Symbol],
+)
     ensures table { λ _. ⌜ now (table .exit) ≡ eliminated q rows cols i (now (table .entry)) ⌝ }
     ensures values { λ _. ⌜ now (values .exit) ≡ carried q rows cols i (now (table .entry)) (now (values .entry)) ⌝ }
+    ensures units { λ _. ⌜ now (units .exit) ≡ carried q rows cols i (now (table .entry)) (now (units .entry)) ⌝ }
 {
     carry(q, rows, cols, i, table, values);
+    carry(q, rows, cols, i, table, units);
     eliminate(q, rows, cols, i, table);
 }
 
@@ -58,15 +70,17 @@ fn sweep_all(
     reported: u16,
     table: &mut [Symbol],
     values: &mut [Symbol],
+    units: &mut [Symbol],
 )
-    requires { ⌜ (rows ≤ 48) × (cols ≤ 48) × (rows * cols ≡ length (now table)) × (length (now values) ≡ rows) × (first + count ≤ rows) × (count ≤ 8) ⌝ }
+    requires { ⌜ (rows ≤ 48) × (cols ≤ 48) × (rows * cols ≡ length (now table)) × (first + count ≤ rows) × (count ≤ 8) ⌝ }
     ensures table { λ _. ⌜ now (table .exit) ≡ sweptTable q rows cols first (hasBit reported) (now (table .entry)) count ⌝ }
     ensures values { λ _. ⌜ now (values .exit) ≡ sweptValues q rows cols first (hasBit reported) (now (table .entry)) (now (values .entry)) count ⌝ }
+    ensures units { λ _. ⌜ now (units .exit) ≡ sweptValues q rows cols first (hasBit reported) (now (table .entry)) (now (units .entry)) count ⌝ }
 {
     let mut j = 0;
     while j < count {
         if has_arrived(reported, j) {
-            sweep(q, rows, cols, first + j, table, values);
+            sweep(q, rows, cols, first + j, table, values, units);
         }
         j += 1;
     }
@@ -89,35 +103,42 @@ fn all_cleared(n: usize, cols: usize, table: &[Symbol]) -> bool
     true
 }
 
-// Each total is minus the value that its row has left.
-fn write_totals(q: Symbol, values: &[Symbol], out: &mut [Symbol])
-    requires { ⌜ length (now out) ≤ length (now values) ⌝ }
-    ensures { λ _. ⌜ now (out .exit) ≡ tab (length (now (out .entry))) (λ s. oppositeOf q (at (now (values .entry)) s)) ⌝ }
+// Each total is minus the value that its row has left, divided by its unit.
+fn write_totals(q: Symbol, values: &[Symbol], units: &[Symbol], out: &mut [Symbol])
+    requires { ⌜ (length (now out) ≤ length (now values)) × (length (now out) ≤ length (now units)) ⌝ }
+    ensures { λ _. ⌜ now (out .exit) ≡ tab (length (now (out .entry)))
+        (λ s. productOf q (oppositeOf q (at (now (values .entry)) s)) (inverseOf q (at (now (units .entry)) s))) ⌝ }
 {
     let mut s = 0;
     while s < out.len() {
-        out[s] = opposite_mod(q, values[s]);
+        let v = opposite_mod(q, values[s]);
+        let u = inverse_mod(q, units[s]);
+        out[s] = mul_mod(q, v, u);
         s += 1;
     }
 }
 
-// The values beside the rows: 0 for each of n totals, and the sums.
-fn write_values(n: usize, sums: &[Symbol], values: &mut [Symbol])
-    requires { ⌜ length (now values) ≡ n + length (now sums) ⌝ }
-    ensures { λ _. ⌜ now (values .exit) ≡ zeros n ++ now (sums .entry) ⌝ }
+// What stands beside the rows: values, 0 for each of n totals, and the sums; and units, 1 for each total and 0 for each relay. Carried along, a unit becomes
+// what the row of its total is multiplied by.
+fn write_start(n: usize, sums: &[Symbol], values: &mut [Symbol], units: &mut [Symbol])
+    requires { ⌜ (length (now values) ≡ n + length (now sums)) × (length (now units) ≡ length (now values)) ⌝ }
+    ensures values { λ _. ⌜ now (values .exit) ≡ zeros n ++ now (sums .entry) ⌝ }
+    ensures units { λ _. ⌜ now (units .exit) ≡ tab (length (now (units .entry))) (λ r. cond (ltb r n) 1 0) ⌝ }
 {
     let mut r = 0;
     while r < values.len() {
         if r < n {
             values[r] = 0;
+            units[r] = 1;
         } else {
             values[r] = sums[r - n];
+            units[r] = 0;
         }
         r += 1;
     }
 }
 
-// Decodes in a table t and values that are lent; where some total is no combination nothing is written to out.
+// Decodes in a table t, values and units that are lent; where some total is no combination nothing is written to out.
 fn decode_in(
     ring: Ring,
     table: &[Symbol],
@@ -126,11 +147,12 @@ fn decode_in(
     sums: &[Symbol],
     t: &mut [Symbol],
     values: &mut [Symbol],
+    units: &mut [Symbol],
     out: &mut [Symbol],
 ) -> bool
     requires { ⌜ Ready ring (now table) (now weights) × (length (now sums) ≡ ring .size) × T (arrivedBelow (ring .q) (ring .size) reported (now sums))
         × (length (now t) ≡ (ring .parts + ring .size) * (ring .size * ring .parts + ring .rate)) × (length (now values) ≡ ring .parts + ring .size)
-        × (length (now out) ≡ ring .parts) ⌝ }
+        × (length (now units) ≡ ring .parts + ring .size) × (length (now out) ≡ ring .parts) ⌝ }
     ensures answer { λ r. ⌜ r ≡ decodable (networkOf ring (now (table .entry)) (now (weights .entry))) reported ⌝ }
     ensures out { λ _. ⌜ now (out .exit) ≡ cond (decodable (networkOf ring (now (table .entry)) (now (weights .entry))) reported)
         (tab (ring .parts) (decoded (networkOf ring (now (table .entry)) (now (weights .entry))) reported (now (sums .entry)))) (now (out .entry)) ⌝ }
@@ -138,7 +160,7 @@ fn decode_in(
     let rows = ring.parts + ring.size;
     let cols = ring.size * ring.parts + ring.rate;
     fill_grid(ring, table, weights, 0, 0, 0, t);
-    write_values(ring.parts, sums, values);
+    write_start(ring.parts, sums, values, units);
     sweep_all(
         ring.q,
         rows,
@@ -148,11 +170,12 @@ fn decode_in(
         reported,
         t,
         values,
+        units,
     );
     if !all_cleared(ring.parts, cols, t) {
         return false;
     }
-    write_totals(ring.q, values, out);
+    write_totals(ring.q, values, units, out);
     true
 }
 
@@ -174,6 +197,7 @@ fn decode_here(
     let m = rows * (ring.size * ring.parts + ring.rate);
     let mut t = [0 as Symbol; Ring::MAX_NUMBERS];
     let mut values = [0 as Symbol; Ring::MAX_ROWS];
+    let mut units = [0 as Symbol; Ring::MAX_ROWS];
     decode_in(
         ring,
         table,
@@ -182,6 +206,7 @@ fn decode_here(
         sums,
         &mut t[..m],
         &mut values[..rows],
+        &mut units[..rows],
         out,
     )
 }

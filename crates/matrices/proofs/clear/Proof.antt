@@ -1,9 +1,8 @@
 use native.Mathlib.Omega.{arith}
 use borrow.Author.Tests.{eq-eqb, ne-eqb}
-use mathlib.Core.Path.{ap, _∙_}
-use Prim.Native.Nat.{ℕ}
 use lib.ListN.{getD}
-use Rattle.matrices.specs.Tables.{fused, cleared}
+use Rattle.matrices.specs.Tables.{cleared}
+use Rattle.matrices.proofs.Steps.{place-of}
 use Rattle.matrices.proofs.clear.Statement.{statement}
 use Rattle.matrices.proofs.clear.Tie as tie
 
@@ -17,8 +16,7 @@ returns-2 : tie.Need-returns-2
 unfolding cleared
 returns-2 c =
     let a = c .before .before .before .before .before .before .before .before .before .args in
-    rw (ne-eqb (getD (a .row .now) (a .p) 0) 0 (c .before .before .before .before .before .if1 .left))
-    (c .before .before .fuse .ensures ∙ ap (λ (m : ℕ). fused (a .q) m (a .row .now) (a .s .now)) (c .before .before .before .before .opposite-mod .ensures))
+    rw (ne-eqb (getD (a .row .now) (a .p) 0) 0 (c .before .before .before .before .before .if1 .left)) (c .before .before .cross .ensures)
 
 pub clear-spec : {M : Type 1} → statement M
 clear-spec =
@@ -27,7 +25,8 @@ clear-spec =
     (λ c. omega arith)
     (λ c. c .before .before .before .pre .1)
     returns
-    (λ c κs. tt)
+    (λ c. omega arith)
+    (λ c. place-of (c .before .before .before .before .before .pre .1) (c .before .before .before .before .before .pre .0))
     (λ c κs. c .before .before .before .before .before .before .pre .0)
     (λ c. c .before .row .given)
     returns-2)

@@ -1,114 +1,81 @@
 use Prim.Native.Nat.{zero-le, _+_, _*_, _≤_}
 use mathlib.Core.Path.{_≡_, sym, ap, ap₂, _∙_}
 use mathlib.Core.Bool.{Bool, true, false, cond}
-use native.Mathlib.Omega.{arith}
-use lib.ListN.{length}
-use borrow.Author.Tests.{not-true, not-false}
 use native.Mathlib.Nat.{sub-zero, mul-le-mul}
-use lib.ListN.{length-append}
+use native.Mathlib.Omega.{arith}
+use borrow.Author.Needs.{needs}
+use borrow.Author.Tests.{not-true, not-false}
+use Rattle.lists.specs.Lists.{tab}
 use Rattle.lists.proofs.Searches.{true→T}
-use Rattle.lists.specs.Lists.{zeros, tab}
-use Rattle.lists.proofs.ListLaws.{length-zeros}
 use Rattle.cyclic.specs.Decoding.{decodable, decoded}
 use Rattle.networks.specs.Rings.{networkOf}
 use Rattle.networks.proofs.RingLaws.{few-symbols, few-columns}
-use Rattle.networks.proofs.GridRows.{grid-size}
-use Rattle.lists.specs.Bits.{hasBit}
-use Rattle.matrices.proofs.Sweeping.{swept-length, values-length}
 use Rattle.networks.proofs.DecodeLaws.{answer-is, totals-are}
-use borrow.Author.Needs.{needs}
 use Rattle.networks.proofs.decoding.decode_in.Statement.{statement}
 use Rattle.networks.proofs.decoding.decode_in.Tie as tie
+
+-- places of the code: where it begins, once the table is filled, once values and units are written, and once the sweep is done
+abbrev begun : tie.After-fill-grid → tie.Start
+begun c = c .before .before .before .before .before .before .before .before .before .before .before .before
+
+abbrev filled : tie.After-sweep-all-arg3 → tie.After-fill-grid
+filled c = c .before .before .before .before .before .before .before .before .before .before .before .before
+
+abbrev started : tie.After-sweep-all-arg3 → tie.After-write-start
+started c = c .before .before .before .before .before .before .before
+
+abbrev swept : tie.After-all-cleared-arg → tie.After-sweep-all
+swept c = c .before .before .before .before .before .before .before
 
 add-rows : tie.Need-add-rows
 add-rows c = search needs
 
 mul-cols : tie.Need-mul-cols
-mul-cols c = omega (
-  arith,
-  few-symbols (c .before .before .before .before .before .before .before .before .args .ring)
-      (c .before .before .before .before .before .before .before .before .pre .0 .counted),
-)
+mul-cols c =
+    let s = c .before .before .before .before .before .before .before .before .before in
+    omega (arith, few-symbols (s .args .ring) (s .pre .0 .counted))
 
 add-cols : tie.Need-add-cols
-add-cols c = omega (
-  arith,
-  few-columns (c .before .before .before .before .before .before .before .before .before .args .ring)
-      (c .before .before .before .before .before .before .before .before .before .pre .0 .counted),
-)
+add-cols c =
+    let s = c .before .before .before .before .before .before .before .before .before .before in
+    omega (arith, few-columns (s .args .ring) (s .pre .0 .counted))
 
 fill-grid-requires : tie.Need-fill-grid-requires
 fill-grid-requires c κs =
-    let s = c .before .before .before .before .before .before .before .before .before .before in
-    let a = s .args in (
+    let s = c .before .before .before .before .before .before .before .before .before .before .before in
+    let r = s .args .ring in (
       s .pre .0,
       zero-le,
       zero-le,
       omega (arith, s .pre .0 .counted .rate-low),
-      s .pre .3 ∙ sym (ap₂ _*_ (sub-zero (a .ring .parts + a .ring .size)) (sub-zero (a .ring .size * a .ring .parts + a .ring .rate))),
+      s .pre .3 ∙ sym (ap₂ _*_ (sub-zero (r .parts + r .size)) (sub-zero (r .size * r .parts + r .rate))),
     )
 
-write-values-requires : tie.Need-write-values-requires
-write-values-requires c κs = search needs
-
--- the table and the values are as long as they were
-table-long : (c : tie.After-sweep-all-arg2) →
-    (let a = c .before .before .before .before .before .before .before .before .before .before .before .before .before .before .before .before .before .before
-    .before .args in (a .ring .parts + a .ring .size) * (a .ring .size * a .ring .parts + a .ring .rate) ≡ length
-    (c .before .before .before .before .before .before .before .before .fill-grid .last .1 .1 .1 .1 .1 .1 .0))
-table-long c =
-    let a = c .before .before .before .before .before .before .before .before .before .before .before .before .before .before .before .before .before .before
-    .before .args in
-    sym (ap length (c .before .before .before .before .before .before .before .before .fill-grid .ensures) ∙ grid-size
-    (networkOf (a .ring) (a .table .now) (a .weights .now)) 0 0 0 (length (a .t .now))
-    ∙ c .before .before .before .before .before .before .before .before .before .before .before .before .before .before .before .before .before .before .before
-    .pre .3)
-
-values-long : (c : tie.After-sweep-all-arg2) →
-    (let a = c .before .before .before .before .before .before .before .before .before .before .before .before .before .before .before .before .before .before
-    .before .args in length (c .before .before .before .before .write-values .last .1 .1 .0) ≡ a .ring .parts + a .ring .size)
-values-long c =
-    let a = c .before .before .before .before .before .before .before .before .before .before .before .before .before .before .before .before .before .before
-    .before .args in
-    ap length (c .before .before .before .before .write-values .ensures)
-    ∙ length-append (zeros (a .ring .parts)) (a .sums .now) ∙ ap₂ _+_ (length-zeros (a .ring .parts))
-    (c .before .before .before .before .before .before .before .before .before .before .before .before .before .before .before .before .before .before .before
-    .pre .1)
+write-start-requires : tie.Need-write-start-requires
+write-start-requires c κs = search needs
 
 sweep-all-requires : tie.Need-sweep-all-requires
 sweep-all-requires c κs =
-    let s = c .before .before .before .before .before .before .before .before .before .before .before .before .before .before .before .before .before .before
-    .before in
-    let a = s .args in (
+    let s = begun (filled c) in (
       omega (arith, s .pre .0 .counted .parts-high, s .pre .0 .counted .size-high),
-      few-columns (a .ring) (s .pre .0 .counted),
-      table-long c,
-      values-long c,
+      few-columns (s .args .ring) (s .pre .0 .counted),
+      sym (filled c .fill-grid .kept .1 .1 .1 .1 .1 .1 .0 ∙ s .pre .3),
       omega arith,
       s .pre .0 .counted .size-high,
     )
 
 all-cleared-requires : tie.Need-all-cleared-requires
 all-cleared-requires c κs =
-    let s = c .before .before .before .before .before .before .before .before .before .before .before .before .before .before .before .before .before .before
-    .before .before .before .before .before .before .before in
-    let a = s .args in
-    let m : a .ring .parts * (a .ring .size * a .ring .parts + a .ring .rate) ≤ (a .ring .parts + a .ring .size) *
-    (a .ring .size * a .ring .parts + a .ring .rate)
-    = mul-le-mul {n₁ = a .ring .parts} {m₁ = a .ring .size * a .ring .parts + a .ring .rate} {n₂ = a .ring .parts + a .ring .size}
-    {m₂ = a .ring .size * a .ring .parts + a .ring .rate} (omega arith) (omega arith) in (
+    let w = swept c in
+    let d = filled (w .before) in
+    let s = begun d in
+    let r = s .args .ring in
+    let m : r .parts * (r .size * r .parts + r .rate) ≤ (r .parts + r .size) * (r .size * r .parts + r .rate)
+    = mul-le-mul {n₁ = r .parts} {m₁ = r .size * r .parts + r .rate} {n₂ = r .parts + r .size} {m₂ = r .size * r .parts + r .rate}
+    (omega arith) (omega arith) in (
       omega (arith, s .pre .0 .counted .parts-high),
-      few-columns (a .ring) (s .pre .0 .counted),
-      omega (
-        arith,
-        m,
-        table-long (c .before .before .before .before .before .before),
-        ap length (c .before .before .before .before .before .sweep-all .ensures .0),
-        swept-length (a .ring .q) (a .ring .parts + a .ring .size)
-            (a .ring .size * a .ring .parts + a .ring .rate) (a .ring .parts) (hasBit (a .reported))
-            (c .before .before .before .before .before .before .before .before .before .before .before .before .before .before .fill-grid .last .1 .1 .1 .1 .1
-            .1 .0) (table-long (c .before .before .before .before .before .before)) (a .ring .size),
-      ),
+      few-columns r (s .pre .0 .counted),
+      omega (arith, m, w .sweep-all .kept .1 .1 .1 .1 .1 .1 .0, d .fill-grid .kept .1 .1 .1 .1 .1 .1 .0, s .pre .3),
     )
 
 same-length : tie.Need-same-length
@@ -117,24 +84,23 @@ same-length c = search needs
 same-length-2 : tie.Need-same-length-2
 same-length-2 c = search needs
 
-answered : (c : tie.After-all-cleared) →
-    (let a = c .before .before .before .before .before .before .before .before .before .before .before .before .before .before .before .before .before .before
-    .before .before .before .before .before .before .before .before .args in c .all-cleared .result ≡ decodable
-    (networkOf (a .ring) (a .table .now) (a .weights .now)) (a .reported))
+same-length-3 : tie.Need-same-length-3
+same-length-3 c = search needs
+
+answered : (c : tie.After-all-cleared) → (let a = begun (filled (swept (c .before) .before)) .args in
+    c .all-cleared .result ≡ decodable (networkOf (a .ring) (a .table .now) (a .weights .now)) (a .reported))
 answered c =
-    let s = c .before .before .before .before .before .before .before .before .before .before .before .before .before .before .before .before .before .before
-    .before .before .before .before .before .before .before .before in
+    let w = swept (c .before) in
+    let d = filled (w .before) in
+    let s = begun d in
     let a = s .args in
     c .all-cleared .ensures
-    ∙ answer-is (a .ring) (a .table .now) (a .weights .now) (s .pre .0) (a .reported) (a .sums .now) _ _ _
-    (c .before .before .before .before .before .before .before .before .before .before .before .before .before .before .before .fill-grid .ensures) (s .pre .3)
-    (c .before .before .before .before .before .before .before .before .before .before .before .write-values .ensures)
-    _ (c .before .before .before .before .before .before .sweep-all .ensures .0)
+    ∙ answer-is (a .ring) (a .table .now) (a .weights .now) (s .pre .0) (a .reported) (a .sums .now) _ _
+    (d .fill-grid .ensures) (s .pre .3) _ (w .sweep-all .ensures .0)
 
 returns : tie.Need-returns
 returns c =
-    let a = c .before .before .before .before .before .before .before .before .before .before .before .before .before .before .before .before .before .before
-    .before .before .before .before .before .before .before .before .before .args in
+    let a = begun (filled (swept (c .before .before) .before)) .args in
     let e : false ≡ decodable (networkOf (a .ring) (a .table .now) (a .weights .now)) (a .reported)
     = sym (not-true _ (c .if1 .taken)) ∙ answered (c .before) in (
       e,
@@ -144,23 +110,13 @@ returns c =
 
 write-totals-requires : tie.Need-write-totals-requires
 write-totals-requires c κs =
-    let s = c .before .before .before .before .before .before .before .before .before .before .before .before .before .before .before .before .before .before
-    .before .before .before .before .before .before .before .before .before .before .before in
-    let a = s .args in
-    omega (
-      arith,
-      s .pre .5,
-      ap length (c .before .before .before .before .before .before .before .before .before .sweep-all .ensures .1),
-      values-long (c .before .before .before .before .before .before .before .before .before .before),
-      values-length (a .ring .q) (a .ring .parts + a .ring .size) (a .ring .size * a .ring .parts + a .ring .rate) (a .ring .parts) (hasBit (a .reported))
-          (c .before .before .before .before .before .before .before .before .before .before .before .before .before .before .before .before .before .before
-          .fill-grid .last .1 .1 .1 .1 .1 .1 .0)
-          (c .before .before .before .before .before .before .before .before .before .before .before .before .before .before .write-values .last .1 .1 .0)
-          (a .ring .size),
+    let w = swept (c .before .before .before .before .before) in
+    let s = begun (filled (w .before)) in
+    let e = w .sweep-all .kept in
+    let b = started (w .before) .write-start .kept in (
+      omega (arith, s .pre .6, s .pre .4, e .1 .1 .1 .1 .1 .1 .1 .0, b .1 .1 .0),
+      omega (arith, s .pre .6, s .pre .5, e .1 .1 .1 .1 .1 .1 .1 .1 .0, b .1 .1 .1 .0),
     )
-
-same-length-3 : tie.Need-same-length-3
-same-length-3 c = search needs
 
 same-length-4 : tie.Need-same-length-4
 same-length-4 c = search needs
@@ -168,22 +124,28 @@ same-length-4 c = search needs
 same-length-5 : tie.Need-same-length-5
 same-length-5 c = search needs
 
+same-length-6 : tie.Need-same-length-6
+same-length-6 c = search needs
+
+same-length-7 : tie.Need-same-length-7
+same-length-7 c = search needs
+
 returns-2 : tie.Need-returns-2
 returns-2 c =
-    let s = c .before .before .before .before .before .before .before .before .before .before .before .before .before .before .before .before .before .before
-    .before .before .before .before .before .before .before .before .before .before .before .before .before .before in
+    let w = swept (c .before .before .before .before .before .before .before .before) in
+    let d = filled (w .before) in
+    let b = started (w .before) in
+    let s = begun d in
     let a = s .args in
     let e : true ≡ decodable (networkOf (a .ring) (a .table .now) (a .weights .now)) (a .reported)
-    = sym (not-false _ (c .before .before .before .before .before .if1 .left)) ∙ answered (c .before .before .before .before .before .before) in (
+    = sym (not-false _ (c .before .before .before .before .before .before .if1 .left))
+    ∙ answered (c .before .before .before .before .before .before .before) in (
       e,
       c .before .before .write-totals .ensures
-          ∙ totals-are (a .ring) (a .table .now) (a .weights .now) (s .pre .0) (a .reported) (a .sums .now) _ _ _
-          (c .before .before .before .before .before .before .before .before .before .before .before .before .before .before .before .before .before .before
-          .before .before .before .fill-grid .ensures) (s .pre .3)
-          (c .before .before .before .before .before .before .before .before .before .before .before .before .before .before .before .before .before
-          .write-values .ensures)
-          (s .pre .1) (s .pre .2) (true→T _ (sym e)) _
-          (c .before .before .before .before .before .before .before .before .before .before .before .before .sweep-all .ensures .1) _ (s .pre .5)
+          ∙ totals-are (a .ring) (a .table .now) (a .weights .now) (s .pre .0) (a .reported) (a .sums .now) _ _
+          (d .fill-grid .ensures) (s .pre .3) (s .pre .1) (s .pre .2) (true→T _ (sym e)) _ _ _ _ _ _ (b .write-start .ensures .0)
+          (b .write-start .ensures .1) (s .pre .5)
+          (w .sweep-all .ensures .1 .0) (w .sweep-all .ensures .1 .1) (s .pre .6)
           ∙ ap (λ (b : Bool). cond b (tab (a .ring .parts) (decoded (networkOf (a .ring) (a .table .now) (a .weights .now)) (a .reported) (a .sums .now)))
           (a .out .now)) e,
     )
@@ -196,14 +158,16 @@ decode-in-spec =
     mul-cols
     add-cols
     fill-grid-requires
-    write-values-requires
+    write-start-requires
     sweep-all-requires
     all-cleared-requires
     same-length
     same-length-2
+    same-length-3
     returns
     write-totals-requires
-    same-length-3
     same-length-4
     same-length-5
+    same-length-6
+    same-length-7
     returns-2)
