@@ -1,6 +1,6 @@
 -- Lists of one length, one after the other: how long they are together, and where each of them stands.
 use Prim.Native.Nat.{ℕ, zero, suc, _+_, _*_, _≤_, _<_}
-use mathlib.Core.Path.{_≡_, sym, ap, ap₂, _∙_, subst}
+use mathlib.Core.Path.{_≡_, refl, sym, ap, ap₂, _∙_, subst}
 use mathlib.Core.Logic.{⊎-elim}
 use mathlib.Core.Bool.{Bool, true, false, cond}
 use mathlib.Core.List.{List, [], _++_}
@@ -30,6 +30,11 @@ module _ (L : ℕ) (g : ℕ → List ℕ) (each : (i : ℕ) → length (g i) ≡
       ∙ take-append-le L (drop (i * L) (joinTo n g)) (g n) (omega (arith, length-join n, length-drop (i * L) (joinTo n g)))
       ∙ join-part n i l)
       (eq-or-lt-of-le (le-of-suc-le-suc h))
+
+pub join-cong : (n : ℕ) (f g : ℕ → List ℕ) → ((i : ℕ) → f i ≡ g i) → joinTo n f ≡ joinTo n g
+unfolding joinTo
+join-cong zero f g e = refl
+join-cong (suc n) f g e = ap₂ _++_ (join-cong n f g e) (e n)
 
 -- how long those are together that are picked
 pub length-lists : {A : Type 0} (n c : ℕ) (b : ℕ → Bool) (f : ℕ → List A) → ((i : ℕ) → length (f i) ≡ c) → length (picked n b f) ≡ howMany n b * c

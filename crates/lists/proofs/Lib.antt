@@ -2,6 +2,7 @@ pub mod Binomials
 pub mod BitLaws
 pub mod Filling
 pub mod Fronts
+pub mod InPlace
 pub mod Joins
 pub mod ListLaws
 pub mod Members

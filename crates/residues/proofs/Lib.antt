@@ -5,6 +5,7 @@ pub mod FieldLaws
 pub mod InverseLaws
 pub mod PowerLaws
 pub mod PrimeLaws
+pub mod Reciprocals
 pub mod RunningSum
 pub mod SymbolLaws
 pub mod Units
