@@ -1,3 +1,5 @@
+mod Halves
 pub mod KeyLaws
 pub mod MakerLaws
 mod MakerSteps
+mod SumLaws

@@ -1,13 +1,15 @@
 // Individual keys: each user's symbols, from its row of the key table and a source key.
 ghost use mathlib.Core.Path.{_≡_};
-ghost use Prim.Native.Nat.{_+_, _*_, _<_, _≤_};
+ghost use Prim.Native.Nat.{ℕ, _+_, _*_, _<_, _≤_};
 ghost use lib.ListN.{length};
 ghost use mathlib.Core.Bool.{true};
 ghost use Rattle.refusals.specs.Codes.{firstOf, verdictCode};
-ghost use Rattle.lists.specs.Lists.{at, tab};
+ghost use Rattle.lists.specs.Lists.{at, tab, joinTo};
 ghost use Rattle.secrecy.specs.Model.{sumSoFar};
 ghost use Rattle.plans.specs.Plans.{usersOf, inBounds};
 ghost use Rattle.keys.specs.Keys.{keysOf, blockChecks, keyCode, keysAfter, unvettedCode, unvettedAfter};
+use crate::columns::turn;
+use crate::products::add_products;
 use crate::verdict::verdict_on;
 use arithmetic::Symbol;
 use plans::Plan;
@@ -16,57 +18,66 @@ use plans::length_fits;
 use refusals::Refusal;
 use refusals::Verdict;
 
-// One product more: from the sum after k products to that after k + 1.
-fn add_product(q: Symbol, row: &[Symbol], symbols: &[Symbol], k: usize, sum: Symbol) -> Symbol
-    requires { ⌜ (0 < q) × (sum ≡ sumSoFar q (at (now row)) (at (now symbols)) k) × (length (now row) ≡ length (now symbols))
-        × (k < length (now row)) ⌝ }
-    ensures { λ r. ⌜ r ≡ sumSoFar q (at (now (row .entry))) (at (now (symbols .entry))) (k + 1) ⌝ }
-{
-    arithmetic::mul_add_mod(q, sum, row[k], symbols[k])
-}
+// The largest source key.
+const LARGEST: usize = Plan::MAX_RATE * Plan::MAX_LENGTH;
 
-// The products of a row with the source symbols of one position, from the first to the last. What is held is always the sum so far.
-fn key_symbol(q: Symbol, row: &[Symbol], symbols: &[Symbol]) -> Symbol
-    requires { ⌜ (0 < q) × (length (now row) ≡ length (now symbols)) ⌝ }
-    ensures { λ r. ⌜ r ≡ sumSoFar q (at (now (row .entry))) (at (now (symbols .entry))) (length (now (row .entry))) ⌝ }
+// The sum of no products in every position.
+fn clear(keys: &mut [Symbol])
+    ensures { λ _. ⌜ now (keys .exit) ≡ tab (length (now (keys .entry))) (λ _. 0) ⌝ }
 {
-    let mut sum: Symbol = 0;
-    let mut k = 0;
-    while k < row.len() {
-        sum = add_product(q, row, symbols, k, sum);
-        k += 1;
-    }
-    sum
-}
-
-// The keys of the user with this row, position by position.
-fn user_keys(q: Symbol, row: &[Symbol], source: &[Symbol], keys: &mut [Symbol])
-    requires { ⌜ (0 < q) × (length (now source) ≡ length (now keys) * length (now row)) ⌝ }
-    ensures { λ _. ⌜ now (keys .exit)
-        ≡ tab (length (now (keys .entry)))
-        (λ p. sumSoFar q (at (now (row .entry))) (λ k. at (now (source .entry)) (p * length (now (row .entry)) + k)) (length (now (row .entry)))) ⌝ }
-{
-    let rate = row.len();
     let mut p = 0;
     while p < keys.len() {
-        let a = p * rate;
-        let d = a + rate;
-        keys[p] = key_symbol(q, row, &source[a..d]);
+        keys[p] = 0;
         p += 1;
     }
 }
 
+// One product more in every position: from the sums after k products to those after k + 1.
+fn add_product(q: Symbol, row: &[Symbol], turned: &[Symbol], k: usize, keys: &mut [Symbol])
+    requires { ⌜ (k < length (now row)) × (at (now row) k < q) × (length (now turned) ≡ length (now row) * length (now keys))
+        × ((j p : ℕ) → j < length (now row) → p < length (now keys) → at (now turned) (j * length (now keys) + p) < q)
+        × (now keys ≡ tab (length (now keys)) (λ p. sumSoFar q (at (now row)) (λ j. at (now turned) (j * length (now keys) + p)) k)) ⌝ }
+    ensures { λ _. ⌜ now (keys .exit)
+        ≡ tab (length (now (keys .entry)))
+        (λ p. sumSoFar q (at (now (row .entry))) (λ j. at (now (turned .entry)) (j * length (now (keys .entry)) + p)) (k + 1)) ⌝ }
+{
+    let positions = keys.len();
+    let from = k * positions;
+    let to = from + positions;
+    add_products(q, row[k], &turned[from..to], keys);
+}
+
+// The keys of the user with this row: its products with the source symbols from the first to the last. What is held in each position is always the sum so far.
+fn user_keys(q: Symbol, row: &[Symbol], turned: &[Symbol], keys: &mut [Symbol])
+    requires { ⌜ (0 < q) × ((k : ℕ) → k < length (now row) → at (now row) k < q) × (length (now turned) ≡ length (now row) * length (now keys))
+        × ((j p : ℕ) → j < length (now row) → p < length (now keys) → at (now turned) (j * length (now keys) + p) < q) ⌝ }
+    ensures { λ _. ⌜ now (keys .exit)
+        ≡ tab (length (now (keys .entry)))
+        (λ p. sumSoFar q (at (now (row .entry))) (λ j. at (now (turned .entry)) (j * length (now (keys .entry)) + p)) (length (now (row .entry)))) ⌝ }
+{
+    clear(keys);
+    let mut k = 0;
+    while k < row.len() {
+        add_product(q, row, turned, k, keys);
+        k += 1;
+    }
+}
+
 // User by user, by each one's row.
-fn write_keys(
+fn users_keys(
     plan: Plan,
     table: &[Symbol],
     positions: usize,
-    source: &[Symbol],
+    turned: &[Symbol],
     keys: &mut [Symbol],
 )
     requires { ⌜ (0 < plan .q) × (usersOf plan ≤ 16) × (length (now table) ≡ usersOf plan * plan .rate)
-        × (length (now source) ≡ positions * plan .rate) × (length (now keys) ≡ usersOf plan * positions) ⌝ }
-    ensures { λ _. ⌜ now (keys .exit) ≡ keysOf plan (now (table .entry)) positions (now (source .entry)) ⌝ }
+        × (length (now turned) ≡ plan .rate * positions) × (length (now keys) ≡ usersOf plan * positions)
+        × ((x : ℕ) → at (now table) x < plan .q)
+        × ((k p : ℕ) → k < plan .rate → p < positions → at (now turned) (k * positions + p) < plan .q) ⌝ }
+    ensures { λ _. ⌜ now (keys .exit)
+        ≡ joinTo (usersOf plan) (λ i. tab positions (λ p. sumSoFar (plan .q) (λ k. at (now (table .entry)) (i * plan .rate + k))
+        (λ k. at (now (turned .entry)) (k * positions + p)) (plan .rate))) ⌝ }
 {
     let q = plan.q;
     let users = plan.clusters * plan.size;
@@ -77,9 +88,47 @@ fn write_keys(
         let e = b + rate;
         let from = i * positions;
         let to = from + positions;
-        user_keys(q, &table[b..e], source, &mut keys[from..to]);
+        user_keys(q, &table[b..e], turned, &mut keys[from..to]);
         i += 1;
     }
+}
+
+// The same from a source key, which is turned once for all users.
+fn write_turned(
+    plan: Plan,
+    table: &[Symbol],
+    positions: usize,
+    source: &[Symbol],
+    turned: &mut [Symbol],
+    keys: &mut [Symbol],
+)
+    requires { ⌜ (0 < plan .q) × (usersOf plan ≤ 16) × (length (now table) ≡ usersOf plan * plan .rate)
+        × (length (now source) ≡ positions * plan .rate) × (length (now keys) ≡ usersOf plan * positions)
+        × (length (now turned) ≡ plan .rate * positions)
+        × ((x : ℕ) → at (now table) x < plan .q) × ((x : ℕ) → at (now source) x < plan .q) ⌝ }
+    ensures { λ _. ⌜ now (keys .exit) ≡ keysOf plan (now (table .entry)) positions (now (source .entry)) ⌝ }
+{
+    turn(plan.rate, positions, source, turned);
+    users_keys(plan, table, positions, turned, keys);
+}
+
+// The same, with room to turn the largest source key in.
+fn write_keys(
+    plan: Plan,
+    table: &[Symbol],
+    positions: usize,
+    source: &[Symbol],
+    keys: &mut [Symbol],
+)
+    requires { ⌜ (0 < plan .q) × (usersOf plan ≤ 16) × (length (now table) ≡ usersOf plan * plan .rate)
+        × (length (now source) ≡ positions * plan .rate) × (length (now keys) ≡ usersOf plan * positions)
+        × (plan .rate ≤ 16) × (positions ≤ 64)
+        × ((x : ℕ) → at (now table) x < plan .q) × ((x : ℕ) → at (now source) x < plan .q) ⌝ }
+    ensures { λ _. ⌜ now (keys .exit) ≡ keysOf plan (now (table .entry)) positions (now (source .entry)) ⌝ }
+{
+    let n = plan.rate * positions;
+    let mut turned = [0 as Symbol; LARGEST];
+    write_turned(plan, table, positions, source, &mut turned[..n], keys);
 }
 
 // The blocks of a plan within its bounds: 9, 4, 3.

@@ -1,6 +1,8 @@
 // Keys: the table maker, and individual keys.
+mod columns;
 mod derive;
 mod maker;
+mod products;
 mod rates;
 mod verdict;
 

@@ -19,7 +19,7 @@ write-keys-requires : tie.Need-write-keys-requires
 write-keys-requires c κs =
     let a = c .before .before .before .before .before .before .before .before .args in
     let d = derivable (a .plan) (a .table .now) (a .length) (a .source .now) (a .keys .now) (told (c .before)) in
-    (prime-pos (d .prime), d .few-users, d .size, d .source, d .room)
+    (prime-pos (d .prime), d .few-users, d .size, d .source, d .room, d .few-symbols, d .short, d .table-below, d .source-below)
 
 returns : tie.Need-returns
 returns c =

@@ -1,86 +1,80 @@
--- The invariant: the keys written are those of the positions passed.
-use mathlib.Core.Path.{refl, sym, ap, _∙_}
+-- The invariant: what is held in each position is the sum so far.
+use mathlib.Core.Path.{_≡_, sym, ap, ap₂, _∙_, subst}
 use mathlib.Core.List.{List}
-use Prim.Native.Nat.{ℕ, _+_, _-_, _*_, _%_, _≤_}
-use native.Mathlib.Nat.{le-add-right, add-sub-cancel-left}
+use Prim.Native.Nat.{ℕ, _+_, _-_, _*_, _≤_, _<_}
 use native.Mathlib.Omega.{arith}
 use lib.ListN.{length}
-use Rattle.lists.specs.Lists.{at}
-use Rattle.secrecy.specs.Model.{sumSoFar}
-use Rattle.lists.proofs.Sums.{sum-cong}
-use Rattle.lists.proofs.Filling.{Filling, filling-none, filling-next, filling-less, filling-whole}
-use Rattle.lists.proofs.Fronts.{row-fits, length-part, part-at}
+use Rattle.lists.specs.Lists.{at, tab}
+use Rattle.lists.proofs.ListLaws.{length-tab}
+use Rattle.keys.proofs.SumLaws.{sums, sums-none}
 use Rattle.keys.proofs.derive.user_keys.Statement.{statement}
 use Rattle.keys.proofs.derive.user_keys.Tie as tie
 
--- the key of a position
-abbrev products : ℕ → List ℕ → List ℕ → ℕ → ℕ
-products q row source p = sumSoFar q (at row) (λ k. at source (p * length row + k)) (length row)
-
 abbrev Inv-loop : tie.InvT-loop
-Inv-loop q row source keys₀ rate p₀ keys p = Filling (products q row source) keys₀ keys p
+Inv-loop q row turned keys₀ k₀ keys k = (k ≤ length row) × (keys ≡ sums q row turned (length keys₀) k)
 
 abbrev μ-loop : tie.MeasureT-loop
-μ-loop q row source keys₀ rate p₀ keys p = length keys - p
+μ-loop q row turned keys₀ k₀ keys k = length row - k
+
+-- the sums of the call after k products, for L positions
+abbrev sumsAfter : tie.Start Inv-loop μ-loop → ℕ → ℕ → List ℕ
+sumsAfter s L k = sums (s .args .q) (s .args .row .now) (s .args .turned .now) L k
+
+-- there are as many positions as at the start, once the keys are cleared and in the loop
+same : (c : tie.After-clear Inv-loop μ-loop) → length (c .clear .last .0) ≡ length (c .before .before .before .before .before .args .keys .now)
+same c = ap length (c .clear .ensures) ∙ length-tab _ _
+
+kept : (l : tie.At-loop Inv-loop μ-loop) → length (l .loop .keys) ≡ length (l .before .before .before .clear .last .0)
+kept l = ap length (l .loop .inv .1) ∙ length-tab _ _
 
 loop-holds : tie.Need-loop-holds Inv-loop μ-loop
-loop-holds c = filling-none _ _ 0 refl
-
--- the position's symbols lie in the source key
-fits : (c : tie.In-loop Inv-loop μ-loop) → (let a = c .before .before .before .before .before .args in c .before .loop .p * length (a .row .now) + length
-    (a .row .now) ≤ length (a .source .now))
-fits c =
-    let s = c .before .loop in
-    let a = c .before .before .before .before .before .args in
-    row-fits (length (a .keys .now)) (length (a .row .now)) (s .p) (length (a .source .now)) (omega (arith, c .loop-test .taken, s .inv .whole))
-    (c .before .before .before .before .before .pre .1)
-
-mul-a : tie.Need-mul-a Inv-loop μ-loop
-mul-a c = omega (arith, fits c)
-
-add-d : tie.Need-add-d Inv-loop μ-loop
-add-d c = omega (arith, fits c)
-
-mul-key-symbol : tie.Need-mul-key-symbol Inv-loop μ-loop
-mul-key-symbol c = omega (arith, fits c)
-
-sub-key-symbol : tie.Need-sub-key-symbol Inv-loop μ-loop
-sub-key-symbol c = le-add-right _ _
-
-part-key-symbol-start : tie.Need-part-key-symbol-start Inv-loop μ-loop
-part-key-symbol-start c = le-add-right _ _
-
-part-key-symbol-end : tie.Need-part-key-symbol-end Inv-loop μ-loop
-part-key-symbol-end c = fits c
-
-key-symbol-requires : tie.Need-key-symbol-requires Inv-loop μ-loop
-key-symbol-requires c κs =
-    let s = c .before .before .loop in
-    let a = c .before .before .before .before .before .before .args in
-    let b : ℕ = s .p * length (a .row .now) in (
-      c .before .before .before .before .before .before .pre .0,
-      sym
-          (length-part (b + length (a .row .now) - b) b (a .source .now) (omega (arith, fits (c .before))) ∙ add-sub-cancel-left _ _),
+loop-holds c =
+    let x = c .before .before in
+    let a = x .before .before .before .before .before .args in (
+      omega arith,
+      x .clear .ensures
+          ∙ ap (λ (n : ℕ). tab n (λ _. 0)) (sym (same x))
+          ∙ sums-none (a .q) (a .row .now) (a .turned .now) (length (x .clear .last .0)),
     )
 
+add-product-requires : tie.Need-add-product-requires Inv-loop μ-loop
+add-product-requires c κs =
+    let l = c .before .before in
+    let s = l .before .before .before .before .before .before .before .before in
+    let a = s .args in
+    let k = l .loop .k in
+    let taken = c .before .loop-test .taken in
+    let full : length (l .loop .keys) ≡ length (a .keys .now) = kept l ∙ same (l .before .before .before) in (
+      omega (arith, taken),
+      s .pre .1 _ (omega (arith, taken)),
+      s .pre .2 ∙ ap (λ (n : ℕ). length (a .row .now) * n) (sym full),
+      λ j p h m. subst (λ (n : ℕ). at (a .turned .now) (j * n + p) < a .q) (sym full) (s .pre .3 j p h (omega (arith, full))),
+      l .loop .inv .1 ∙ ap (λ (n : ℕ). sumsAfter s n k) (sym (kept l)),
+    )
+
+add-k : tie.Need-add-k Inv-loop μ-loop
+add-k c = omega (arith, c .before .before .before .before .loop-test .taken)
+
 loop-less : tie.Need-loop-less Inv-loop μ-loop
-loop-less c = let s = c .before .before .before .loop in filling-less (s .keys) (s .p) (c .key-symbol .result) (c .before .before .loop-test .taken)
+loop-less c = omega (arith, c .before .before .before .before .loop-test .taken)
 
 loop-again : tie.Need-loop-again Inv-loop μ-loop
 loop-again c =
-    let s = c .before .before .before .loop in
-    let a = c .before .before .before .before .before .before .before .args in
-    let b : ℕ = s .p * length (a .row .now) in
-    filling-next (products (a .q) (a .row .now) (a .source .now)) _ (s .keys) (s .p) (c .key-symbol .result) (s .inv) (c .before .before .loop-test .taken)
-    (c .key-symbol .ensures
-    ∙ ap (λ (t : ℕ). t % a .q) (sum-cong (length (a .row .now)) _ _
-    (λ k l. ap (λ (x : ℕ). at (a .row .now) k * x) (part-at (b + length (a .row .now) - b) b (a .source .now) k (omega arith)))))
+    let l = c .before .before .before .before .before in
+    let s = l .before .before .before .before .before .before .before .before in (
+      omega (arith, c .before .before .before .before .loop-test .taken),
+      c .before .before .add-product .ensures ∙ ap (λ (n : ℕ). sumsAfter s n (l .loop .k + 1)) (kept l),
+    )
 
 same-length : tie.Need-same-length Inv-loop μ-loop
-same-length c = c .before .loop .inv .whole
+same-length c = kept (c .before) ∙ same (c .before .before .before .before)
 
 returns : tie.Need-returns Inv-loop μ-loop
-returns c = filling-whole _ _ _ (c .before .loop .p) (c .before .loop .inv) (c .loop-test .left)
+returns c =
+    let l = c .before in
+    let s = l .before .before .before .before .before .before .before .before in
+    let e : l .loop .k ≡ length (s .args .row .now) = omega (arith, c .loop-test .left, l .loop .inv .0) in
+    l .loop .inv .1 ∙ ap₂ (sumsAfter s) (same (l .before .before .before)) e
 
 pub user-keys-spec : {M : Type 1} → statement M
 user-keys-spec =
@@ -88,17 +82,10 @@ user-keys-spec =
     (tie.spec
     Inv-loop
     μ-loop
+    (λ c κs. tt)
     loop-holds
-    mul-a
-    add-d
-    mul-key-symbol
-    sub-key-symbol
-    part-key-symbol-start
-    part-key-symbol-end
-    key-symbol-requires
-    (λ c. omega arith)
-    (λ c. c .before .before .loop-test .taken)
-    (λ c. omega arith)
+    add-product-requires
+    add-k
     loop-less
     loop-again
     same-length

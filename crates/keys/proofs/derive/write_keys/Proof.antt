@@ -1,158 +1,43 @@
--- The invariant: the keys written are those of the users passed.
-use mathlib.Core.Path.{_≡_, sym, ap, ap₂, _∙_}
-use Prim.Native.Nat.{ℕ, _+_, _-_, _*_, _≤_}
-use native.Mathlib.Nat.{le-add-right, add-sub-cancel-left}
-use native.Mathlib.Omega.{arith}
-use lib.ListN.{length, take, drop}
-use Rattle.plans.specs.Plans.{usersOf}
-use Rattle.lists.proofs.Fronts.{Front, front-none, front-part, front-whole, row-fits, length-part}
-use Rattle.keys.proofs.KeyLaws.{keyRows, keys-are, length-keys, keys-of-row}
+use borrow.Author.Needs.{needs}
+use mathlib.Core.Path.{sym}
+use Prim.Native.Nat.{_*_, _≤_}
+use native.Mathlib.Nat.{mul-le-mul}
+use lib.Seq.{length-take-le}
 use Rattle.keys.proofs.derive.write_keys.Statement.{statement}
 use Rattle.keys.proofs.derive.write_keys.Tie as tie
 
-abbrev Inv-loop : tie.InvT-loop
-Inv-loop table positions source keys₀ q users rate i₀ keys i = (i ≤ users) × Front keys₀ (keyRows q users rate positions table source) keys (i * positions)
+-- the array has room
+room : (s : tie.Start) → s .args .plan .rate * s .args .positions ≤ 1024
+room s = mul-le-mul {n₁ = s .args .plan .rate} {m₁ = s .args .positions} {n₂ = 16} {m₂ = 64} (s .pre .5) (s .pre .6)
 
-abbrev μ-loop : tie.MeasureT-loop
-μ-loop table positions source keys₀ q users rate i₀ keys i = users - i
+array-borrow-prefix-turned : tie.Need-array-borrow-prefix-turned
+array-borrow-prefix-turned c = room (c .before .before .before .before)
 
-mul-users : tie.Need-mul-users Inv-loop μ-loop
-mul-users c = omega (arith, c .before .before .before .before .pre .1)
+slice-aggregate-write-turned : tie.Need-slice-aggregate-write-turned
+slice-aggregate-write-turned c =
+    let s = c .before .before .before .before .before in
+    sym (length-take-le (s .args .plan .rate * s .args .positions) _ (room s))
 
-loop-holds : tie.Need-loop-holds Inv-loop μ-loop
-loop-holds c =
-    let s = c .before .before .before .before in
-    let a = s .args in (
-      omega arith,
-      front-none _ _ (0 * a .positions) (omega arith)
-          (length-keys (a .plan .q) (usersOf (a .plan)) (a .plan .rate) (a .positions) (a .table .now) (a .source .now) ∙ sym (s .pre .4)),
+write-turned-requires : tie.Need-write-turned-requires
+write-turned-requires c κs =
+    let s = c .before .before .before .before .before .before in (
+      s .pre .0,
+      s .pre .1,
+      s .pre .2,
+      s .pre .3,
+      s .pre .4,
+      length-take-le (s .args .plan .rate * s .args .positions) _ (room s),
+      s .pre .7,
+      s .pre .8,
     )
-
--- the user's row lies in the table, and its keys in the lent list
-row-in : (c : tie.In-loop Inv-loop μ-loop) → (let a = c .before .before .before .before .before .before .args in c .before .loop .i * a .plan .rate
-    + a .plan .rate ≤ length (a .table .now))
-row-in c =
-    let a = c .before .before .before .before .before .before .args in
-    row-fits (usersOf (a .plan)) (a .plan .rate) (c .before .loop .i) (length (a .table .now)) (c .loop-test .taken)
-    (c .before .before .before .before .before .before .pre .2)
-
-keys-in : (c : tie.In-loop Inv-loop μ-loop) → (let a = c .before .before .before .before .before .before .args in c .before .loop .i * a .positions
-    + a .positions ≤ length (c .before .loop .keys))
-keys-in c =
-    let a = c .before .before .before .before .before .before .args in
-    row-fits (usersOf (a .plan)) (a .positions) (c .before .loop .i) (length (c .before .loop .keys)) (c .loop-test .taken)
-    (c .before .loop .inv .1 .whole ∙ c .before .before .before .before .before .before .pre .4)
-
-mul-b : tie.Need-mul-b Inv-loop μ-loop
-mul-b c = omega (arith, row-in c)
-
-add-e : tie.Need-add-e Inv-loop μ-loop
-add-e c = omega (arith, row-in c)
-
-mul-from : tie.Need-mul-from Inv-loop μ-loop
-mul-from c = omega (arith, keys-in c, c .before .loop .inv .1 .whole)
-
-add-to : tie.Need-add-to Inv-loop μ-loop
-add-to c = omega (arith, keys-in c, c .before .loop .inv .1 .whole)
-
-mul-user-keys : tie.Need-mul-user-keys Inv-loop μ-loop
-mul-user-keys c = omega (arith, row-in c)
-
-sub-user-keys : tie.Need-sub-user-keys Inv-loop μ-loop
-sub-user-keys c = le-add-right _ _
-
-part-user-keys-start : tie.Need-part-user-keys-start Inv-loop μ-loop
-part-user-keys-start c = le-add-right _ _
-
-part-user-keys-end : tie.Need-part-user-keys-end Inv-loop μ-loop
-part-user-keys-end c = row-in c
-
-mul-user-keys-2 : tie.Need-mul-user-keys-2 Inv-loop μ-loop
-mul-user-keys-2 c = omega (arith, keys-in (c .before), c .before .before .loop .inv .1 .whole)
-
-sub-user-keys-2 : tie.Need-sub-user-keys-2 Inv-loop μ-loop
-sub-user-keys-2 c = le-add-right _ _
-
-part-user-keys-start-2 : tie.Need-part-user-keys-start-2 Inv-loop μ-loop
-part-user-keys-start-2 c = le-add-right _ _
-
-part-user-keys-end-2 : tie.Need-part-user-keys-end-2 Inv-loop μ-loop
-part-user-keys-end-2 c = keys-in (c .before)
-
-user-keys-requires : tie.Need-user-keys-requires Inv-loop μ-loop
-user-keys-requires c κs =
-    let s = c .before .before .before .loop in
-    let S = c .before .before .before .before .before .before .before .before in
-    let a = S .args in
-    let b : ℕ = s .i * a .positions in
-    let r : ℕ = s .i * a .plan .rate in
-    let lent : length (take (b + a .positions - b) (drop b (s .keys))) ≡ a .positions = length-part (b + a .positions - b) b (s .keys)
-    (omega (arith, keys-in (c .before .before))) ∙ add-sub-cancel-left _ _ in
-    let row : length (take (r + a .plan .rate - r) (drop r (a .table .now))) ≡ a .plan .rate = length-part (r + a .plan .rate - r) r (a .table .now)
-    (omega (arith, row-in (c .before .before))) ∙ add-sub-cancel-left _ _ in
-    (S .pre .0, S .pre .3 ∙ sym (ap₂ _*_ lent row))
-
-add-i : tie.Need-add-i Inv-loop μ-loop
-add-i c = omega (
-  arith,
-  c .before .before .before .before .before .loop-test .taken,
-  c .before .before .before .before .before .before .before .before .before .before .before .pre .1,
-)
-
-loop-less : tie.Need-loop-less Inv-loop μ-loop
-loop-less c = omega (arith, c .before .before .before .before .before .loop-test .taken)
-
-loop-again : tie.Need-loop-again Inv-loop μ-loop
-loop-again c =
-    let s = c .before .before .before .before .before .before .loop in
-    let a = c .before .before .before .before .before .before .before .before .before .before .before .args in
-    let h = c .before .before .before .before .before .loop-test .taken in
-    let b : ℕ = s .i * a .positions in
-    let r : ℕ = s .i * a .plan .rate in
-    let v : ℕ = b + a .positions - b in (
-      omega (arith, h),
-      front-part _ _ (s .keys) b v ((s .i + 1) * a .positions) (c .before .before .user-keys .last .1 .1 .1 .0) (omega arith) (s .inv .1)
-          (omega (arith, keys-in (c .before .before .before .before .before)))
-          (c .before .before .user-keys .ensures ∙ keys-of-row (a .plan .q) (usersOf (a .plan)) (a .plan .rate) (a .positions) (a .table .now) (a .source .now)
-          (s .keys) (s .i) (r + a .plan .rate - r) v (add-sub-cancel-left _ _) (add-sub-cancel-left _ _) h (row-in (c .before .before .before .before .before))
-          (keys-in (c .before .before .before .before .before))),
-    )
-
-same-length : tie.Need-same-length Inv-loop μ-loop
-same-length c = c .before .loop .inv .1 .whole
-
-returns : tie.Need-returns Inv-loop μ-loop
-returns c =
-    let s = c .before .loop in
-    let S = c .before .before .before .before .before .before in
-    let a = S .args in
-    let e : s .i ≡ usersOf (a .plan) = omega (arith, c .loop-test .left, s .inv .0) in
-    front-whole _ _ (s .keys) (s .i * a .positions) (s .inv .1) (omega (arith, s .inv .1 .whole, S .pre .4, ap (λ (n : ℕ). n * a .positions) e))
-    ∙ keys-are (a .plan) (a .table .now) (a .positions) (a .source .now)
 
 pub write-keys-spec : {M : Type 1} → statement M
 write-keys-spec =
     tie.close
     (tie.spec
-    Inv-loop
-    μ-loop
-    mul-users
-    loop-holds
-    mul-b
-    add-e
-    mul-from
-    add-to
-    mul-user-keys
-    sub-user-keys
-    part-user-keys-start
-    part-user-keys-end
-    mul-user-keys-2
-    sub-user-keys-2
-    part-user-keys-start-2
-    part-user-keys-end-2
-    user-keys-requires
-    add-i
-    loop-less
-    loop-again
-    same-length
-    returns)
+    (search needs)
+    array-borrow-prefix-turned
+    slice-aggregate-write-turned
+    write-turned-requires
+    (search needs)
+    (λ c. search needs))

@@ -1,0 +1,52 @@
+-- A difference that may be negative, at a machine's width: what its two halves hold.
+use Prim.Native.Nat.{ℕ, _+_, _-_, _*_, _/_, _%_, _^_, _≤_, _<_}
+use mathlib.Core.Path.{_≡_, sym, ap, ap₂, _∙_}
+use mathlib.Core.Logic.{_⊎_, ⊎-elim}
+use native.Mathlib.Nat.{mul-le-mul, mod-eq-of-lt, div-eq-of-lt, div-eq-of-lt-le, add-mul-mod-self-left}
+use native.Mathlib.Omega.{arith}
+use native.Mathlib.Decide.{decLt}
+use lib.Bits.{bitAnd, and-mask, and-zero-r}
+
+pub product-fits : (x y : ℕ) → x < 2 ^ 32 → y < 2 ^ 32 → x * y < 2 ^ 64
+product-fits x y h l = omega (arith, mul-le-mul {n₁ = x} {m₁ = y} {n₂ = 2 ^ 32 - 1} {m₂ = 2 ^ 32 - 1} (omega arith) (omega arith))
+
+-- q and a negative number of the width that it outweighs
+back : (q d : ℕ) → d ≤ q → q < 2 ^ 32 → (2 ^ 32 - d + q) % 2 ^ 32 ≡ q - d
+back q d h short =
+    ap (λ (n : ℕ). n % 2 ^ 32) (let s : 2 ^ 32 - d + q ≡ q - d + 2 ^ 32 * 1 = omega arith in s)
+    ∙ add-mul-mod-self-left (q - d) (2 ^ 32) 1
+    ∙ mod-eq-of-lt (omega arith)
+
+-- over and under are at most q apart; z is over less under at the double width. Where it is negative its upper half is all ones.
+module _ (q over under z : ℕ) (short : q < 2 ^ 32) (fits : z < 2 ^ 64) (big : under < 2 ^ 64) (wraps : (z + under) % 2 ^ 64 ≡ over) (above : over < under + q)
+    (near : under ≤ over + q) where
+  raised-above : under ≤ over → (z % 2 ^ 32 + bitAnd q (z / 2 ^ 32)) % 2 ^ 32 ≡ (over + q - under) % q
+  raised-above h =
+      let e : z ≡ over - under = omega arith in
+      let lo : z % 2 ^ 32 ≡ z = mod-eq-of-lt (omega arith) in
+      let hi : z / 2 ^ 32 ≡ 0 = div-eq-of-lt (omega arith) in
+      ap₂ (λ (x y : ℕ). (x + bitAnd q y) % 2 ^ 32) lo hi
+      ∙ ap (λ (y : ℕ). (z + y) % 2 ^ 32) (and-zero-r q)
+      ∙ mod-eq-of-lt {n = z + 0} (omega arith)
+      ∙ (let s : z + 0 ≡ z = omega arith in s)
+      ∙ sym (mod-eq-of-lt {n = z} {m = q} (omega arith))
+      ∙ sym (add-mul-mod-self-left z q 1)
+      ∙ ap (λ (n : ℕ). n % q) (let s : z + q * 1 ≡ over + q - under = omega arith in s)
+
+  raised-below : over < under → (z % 2 ^ 32 + bitAnd q (z / 2 ^ 32)) % 2 ^ 32 ≡ (over + q - under) % q
+  raised-below h =
+      let e : z ≡ 2 ^ 64 - (under - over) = omega arith in
+      let hi : z / 2 ^ 32 ≡ 2 ^ 32 - 1 = omega arith in
+      let lo : z % 2 ^ 32 ≡ 2 ^ 32 - (under - over) = omega arith in
+      ap₂ (λ (x y : ℕ). (x + bitAnd q y) % 2 ^ 32) lo hi
+      ∙ ap (λ (y : ℕ). (2 ^ 32 - (under - over) + y) % 2 ^ 32) (and-mask q 32 ∙ mod-eq-of-lt short)
+      ∙ back q (under - over) (omega arith) short
+      ∙ (let s : q - (under - over) ≡ over + q - under = omega arith in s)
+      ∙ sym (mod-eq-of-lt (omega arith))
+
+  pub raised : (z % 2 ^ 32 + bitAnd q (z / 2 ^ 32)) % 2 ^ 32 ≡ (over + q - under) % q
+  raised = go (decLt over under)
+    where
+      go : Dec (over < under) → (z % 2 ^ 32 + bitAnd q (z / 2 ^ 32)) % 2 ^ 32 ≡ (over + q - under) % q
+      go (yes h) = raised-below h
+      go (no n) = raised-above (omega arith)
