@@ -42,11 +42,10 @@
  * Cyclic networks take tens of microseconds, all other calls a few at most.
  *
  * WHAT THE TIME TELLS. In kortyghai_upload, kortyghai_unmask, kortyghai_signed_upload, kortyghai_signed_unmask,
- * kortyghai_show_totals and the counting of frames, no jump, no division and no address depends on a reading, a key or a
- * sum that is accepted; a block that is refused by 15 shows by the time where its first wrong reading stands. This was seen
- * in the machine code of one compiler and is not proved: docs/MACHINE-CODE.md says what was looked at. All other calls are
- * not constant-time, among them kortyghai_derive_keys, which divides by q and leaves a division out where there is
- * nothing to divide: its time depends on the source key, so derive keys where nobody can measure it.
+ * kortyghai_show_totals, kortyghai_derive_keys and the counting of frames, no jump, no division and no address depends on a
+ * reading, a key, a source symbol or a sum that is accepted; a block that is refused by 15 shows by the time where its first
+ * wrong reading stands. This was seen in the machine code of one compiler and is not proved: docs/MACHINE-CODE.md says what
+ * was looked at. All other calls are not constant-time.
  */
 #ifndef KORTYGHAI_H
 #define KORTYGHAI_H

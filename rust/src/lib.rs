@@ -47,10 +47,10 @@
 //! # Time that depends on secrets
 //!
 //! Proofs say nothing of time. The machine code was looked at (docs/MACHINE-CODE.md): the loops of [`upload`], [`unmask`],
-//! [`Plan::signed_upload`], [`Plan::signed_unmask`], [`Plan::show_totals`] and of a frame's sums have no jump and no division that depends on a reading,
-//! a key or a sum. The check of signed readings before them leaves at the first that is refused (15), so that a refused call's time tells where that stands.
-//! [`KeyTable::derive_keys`] has jumps and divisions that depend on the source key, and the vet, records, windows and networks jump as their numbers say:
-//! call these where nobody can take the time of secrets. (A key table is no secret; a source key is.)
+//! [`Plan::signed_upload`], [`Plan::signed_unmask`], [`Plan::show_totals`], [`KeyTable::derive_keys`] and of a frame's sums have no jump and no division that
+//! depends on a reading, a key, a source symbol or a sum. The check of signed readings before them leaves at the first that is refused (15), so that a refused
+//! call's time tells where that stands. The vet, records, windows and networks jump as their numbers say: call these where nobody can take the time of secrets.
+//! (A key table is no secret; a source key is.)
 
 #![no_std]
 #![deny(missing_docs)]
