@@ -14,11 +14,10 @@ use Rattle.lists.specs.Lists.{tab, joinTo, picked}
 use Rattle.lists.specs.Search.{allTo}
 use Rattle.lists.specs.Sums.{sumTo, howMany}
 use Rattle.lists.proofs.Searches.{all-at, true→T}
-use Rattle.residues.specs.Field.{inverseBelow}
 use Rattle.residues.specs.Primes.{Prime, isPrime, allBelow}
 use Rattle.residues.proofs.PrimeLaws.{test-prime, below-at}
 use Rattle.matrices.specs.Linear.{comb}
-use Rattle.matrices.specs.Tables.{rowOf, pivotsFrom, eliminatedFrom, pivotOf, scaled, fused, cleared, eachRow}
+use Rattle.matrices.specs.Tables.{rowOf, pivotsFrom, eliminatedFrom, pivotOf, crossed, cleared, eachRow}
 use Rattle.matrices.specs.Sweeps.{sweptTable}
 use Rattle.cyclic.specs.Network.{Network, relayOf, heard, linkOf, linked, weight}
 use Rattle.cyclic.specs.NetworkLeaks.{leaks}
@@ -121,73 +120,73 @@ module _ (x : ℕ) (r : Ready exampleRing exampleTable (exampleWeights x)) where
       (sym (grid-rank exampleRing exampleTable (exampleWeights x) r 0 2 10 (lit< tt) 5 3 refl refl) ∙ f)
 
 mended-relay-1 : leaks mended 1 ≡ false
-unfolding pivots pivotsFrom eliminatedFrom pivotOf scaled fused cleared eachRow inverseBelow gridOf tab uploadEntry relayEntry totalEntry weight onReading
+unfolding pivots pivotsFrom eliminatedFrom pivotOf crossed cleared eachRow gridOf tab uploadEntry relayEntry totalEntry weight onReading
     onSource
     linked linkOf heard sumTo
 mended-relay-1 = relay-verdict 10 ready-mended 0 3 3 refl refl
 
 mended-relay-2 : leaks mended 2 ≡ false
-unfolding pivots pivotsFrom eliminatedFrom pivotOf scaled fused cleared eachRow inverseBelow gridOf tab uploadEntry relayEntry totalEntry weight onReading
+unfolding pivots pivotsFrom eliminatedFrom pivotOf crossed cleared eachRow gridOf tab uploadEntry relayEntry totalEntry weight onReading
     onSource
     linked linkOf heard sumTo
 mended-relay-2 = relay-verdict 10 ready-mended 1 3 3 refl refl
 
 mended-relay-3 : leaks mended 3 ≡ false
-unfolding pivots pivotsFrom eliminatedFrom pivotOf scaled fused cleared eachRow inverseBelow gridOf tab uploadEntry relayEntry totalEntry weight onReading
+unfolding pivots pivotsFrom eliminatedFrom pivotOf crossed cleared eachRow gridOf tab uploadEntry relayEntry totalEntry weight onReading
     onSource
     linked linkOf heard sumTo
 mended-relay-3 = relay-verdict 10 ready-mended 2 3 3 refl refl
 
 mended-relay-4 : leaks mended 4 ≡ false
-unfolding pivots pivotsFrom eliminatedFrom pivotOf scaled fused cleared eachRow inverseBelow gridOf tab uploadEntry relayEntry totalEntry weight onReading
+unfolding pivots pivotsFrom eliminatedFrom pivotOf crossed cleared eachRow gridOf tab uploadEntry relayEntry totalEntry weight onReading
     onSource
     linked linkOf heard sumTo
 mended-relay-4 = relay-verdict 10 ready-mended 3 3 3 refl refl
 
 mended-relay-5 : leaks mended 5 ≡ false
-unfolding pivots pivotsFrom eliminatedFrom pivotOf scaled fused cleared eachRow inverseBelow gridOf tab uploadEntry relayEntry totalEntry weight onReading
+unfolding pivots pivotsFrom eliminatedFrom pivotOf crossed cleared eachRow gridOf tab uploadEntry relayEntry totalEntry weight onReading
     onSource
     linked linkOf heard sumTo
 mended-relay-5 = relay-verdict 10 ready-mended 4 3 3 refl refl
 
 printed-relay-1 : leaks printed 1 ≡ false
-unfolding pivots pivotsFrom eliminatedFrom pivotOf scaled fused cleared eachRow inverseBelow gridOf tab uploadEntry relayEntry totalEntry weight onReading
+unfolding pivots pivotsFrom eliminatedFrom pivotOf crossed cleared eachRow gridOf tab uploadEntry relayEntry totalEntry weight onReading
     onSource
     linked linkOf heard sumTo
 printed-relay-1 = relay-verdict 3 ready-printed 0 3 3 refl refl
 
 printed-relay-2 : leaks printed 2 ≡ false
-unfolding pivots pivotsFrom eliminatedFrom pivotOf scaled fused cleared eachRow inverseBelow gridOf tab uploadEntry relayEntry totalEntry weight onReading
+unfolding pivots pivotsFrom eliminatedFrom pivotOf crossed cleared eachRow gridOf tab uploadEntry relayEntry totalEntry weight onReading
     onSource
     linked linkOf heard sumTo
 printed-relay-2 = relay-verdict 3 ready-printed 1 3 3 refl refl
 
 printed-relay-3 : leaks printed 3 ≡ false
-unfolding pivots pivotsFrom eliminatedFrom pivotOf scaled fused cleared eachRow inverseBelow gridOf tab uploadEntry relayEntry totalEntry weight onReading
+unfolding pivots pivotsFrom eliminatedFrom pivotOf crossed cleared eachRow gridOf tab uploadEntry relayEntry totalEntry weight onReading
     onSource
     linked linkOf heard sumTo
 printed-relay-3 = relay-verdict 3 ready-printed 2 3 3 refl refl
 
 printed-relay-4 : leaks printed 4 ≡ false
-unfolding pivots pivotsFrom eliminatedFrom pivotOf scaled fused cleared eachRow inverseBelow gridOf tab uploadEntry relayEntry totalEntry weight onReading
+unfolding pivots pivotsFrom eliminatedFrom pivotOf crossed cleared eachRow gridOf tab uploadEntry relayEntry totalEntry weight onReading
     onSource
     linked linkOf heard sumTo
 printed-relay-4 = relay-verdict 3 ready-printed 3 3 3 refl refl
 
 printed-relay-5 : leaks printed 5 ≡ false
-unfolding pivots pivotsFrom eliminatedFrom pivotOf scaled fused cleared eachRow inverseBelow gridOf tab uploadEntry relayEntry totalEntry weight onReading
+unfolding pivots pivotsFrom eliminatedFrom pivotOf crossed cleared eachRow gridOf tab uploadEntry relayEntry totalEntry weight onReading
     onSource
     linked linkOf heard sumTo
 printed-relay-5 = relay-verdict 3 ready-printed 4 3 3 refl refl
 
 mended-server : leaks mended 0 ≡ false
-unfolding pivots pivotsFrom eliminatedFrom pivotOf scaled fused cleared eachRow inverseBelow gridOf tab uploadEntry relayEntry totalEntry weight onReading
+unfolding pivots pivotsFrom eliminatedFrom pivotOf crossed cleared eachRow gridOf tab uploadEntry relayEntry totalEntry weight onReading
     onSource
     linked linkOf heard sumTo
 mended-server = server-verdict 10 ready-mended 4 2 refl refl
 
 printed-server : leaks printed 0 ≡ true
-unfolding pivots pivotsFrom eliminatedFrom pivotOf scaled fused cleared eachRow inverseBelow gridOf tab uploadEntry relayEntry totalEntry weight onReading
+unfolding pivots pivotsFrom eliminatedFrom pivotOf crossed cleared eachRow gridOf tab uploadEntry relayEntry totalEntry weight onReading
     onSource
     linked linkOf heard sumTo
 printed-server = server-verdict 3 ready-printed 5 2 refl refl
@@ -221,7 +220,7 @@ agrees : ℕ → Bool
 agrees reported = cond (leb 4 (howMany 5 (hasBit reported))) (sweeps reported) (not (sweeps reported))
 
 all-agree : allTo 32 agrees ≡ true
-unfolding agrees sweeps howMany hasBit allTo sweptTable eliminatedFrom pivotOf scaled fused cleared eachRow inverseBelow gridOf tab relayEntry totalEntry weight
+unfolding agrees sweeps howMany hasBit allTo sweptTable eliminatedFrom pivotOf crossed cleared eachRow gridOf tab relayEntry totalEntry weight
     onReading onSource linked linkOf heard sumTo
 all-agree = refl
 
@@ -263,33 +262,33 @@ rows-kept reported a b c d e ea eb ec ed ee =
 
 -- all four that have arrived
 pub without-1-kept : keptRows mended 30 ≡ relayRow mended 1 ∷ relayRow mended 2 ∷ relayRow mended 3 ∷ relayRow mended 4 ∷ []
-unfolding keptTest hasBit sweptTable eliminatedFrom pivotOf scaled fused cleared eachRow inverseBelow gridOf tab relayEntry totalEntry weight onReading onSource
+unfolding keptTest hasBit sweptTable eliminatedFrom pivotOf crossed cleared eachRow gridOf tab relayEntry totalEntry weight onReading onSource
     linked linkOf heard sumTo
 without-1-kept = rows-kept 30 false true true true true refl refl refl refl refl
 
 pub without-2-kept : keptRows mended 29 ≡ relayRow mended 0 ∷ relayRow mended 2 ∷ relayRow mended 3 ∷ relayRow mended 4 ∷ []
-unfolding keptTest hasBit sweptTable eliminatedFrom pivotOf scaled fused cleared eachRow inverseBelow gridOf tab relayEntry totalEntry weight onReading onSource
+unfolding keptTest hasBit sweptTable eliminatedFrom pivotOf crossed cleared eachRow gridOf tab relayEntry totalEntry weight onReading onSource
     linked linkOf heard sumTo
 without-2-kept = rows-kept 29 true false true true true refl refl refl refl refl
 
 pub without-3-kept : keptRows mended 27 ≡ relayRow mended 0 ∷ relayRow mended 1 ∷ relayRow mended 3 ∷ relayRow mended 4 ∷ []
-unfolding keptTest hasBit sweptTable eliminatedFrom pivotOf scaled fused cleared eachRow inverseBelow gridOf tab relayEntry totalEntry weight onReading onSource
+unfolding keptTest hasBit sweptTable eliminatedFrom pivotOf crossed cleared eachRow gridOf tab relayEntry totalEntry weight onReading onSource
     linked linkOf heard sumTo
 without-3-kept = rows-kept 27 true true false true true refl refl refl refl refl
 
 pub without-4-kept : keptRows mended 23 ≡ relayRow mended 0 ∷ relayRow mended 1 ∷ relayRow mended 2 ∷ relayRow mended 4 ∷ []
-unfolding keptTest hasBit sweptTable eliminatedFrom pivotOf scaled fused cleared eachRow inverseBelow gridOf tab relayEntry totalEntry weight onReading onSource
+unfolding keptTest hasBit sweptTable eliminatedFrom pivotOf crossed cleared eachRow gridOf tab relayEntry totalEntry weight onReading onSource
     linked linkOf heard sumTo
 without-4-kept = rows-kept 23 true true true false true refl refl refl refl refl
 
 pub without-5-kept : keptRows mended 15 ≡ relayRow mended 0 ∷ relayRow mended 1 ∷ relayRow mended 2 ∷ relayRow mended 3 ∷ []
-unfolding keptTest hasBit sweptTable eliminatedFrom pivotOf scaled fused cleared eachRow inverseBelow gridOf tab relayEntry totalEntry weight onReading onSource
+unfolding keptTest hasBit sweptTable eliminatedFrom pivotOf crossed cleared eachRow gridOf tab relayEntry totalEntry weight onReading onSource
     linked linkOf heard sumTo
 without-5-kept = rows-kept 15 true true true true false refl refl refl refl refl
 
 -- of all five relay 5 depends on the lower ones, and is left out
 pub all-five-kept : keptRows mended 31 ≡ relayRow mended 0 ∷ relayRow mended 1 ∷ relayRow mended 2 ∷ relayRow mended 3 ∷ []
-unfolding keptTest hasBit sweptTable eliminatedFrom pivotOf scaled fused cleared eachRow inverseBelow gridOf tab relayEntry totalEntry weight onReading onSource
+unfolding keptTest hasBit sweptTable eliminatedFrom pivotOf crossed cleared eachRow gridOf tab relayEntry totalEntry weight onReading onSource
     linked linkOf heard sumTo
 all-five-kept = rows-kept 31 true true true true false refl refl refl refl refl
 

@@ -6,8 +6,7 @@ use Rattle.secrecy.specs.Model.{columnSum}
 use Rattle.refusals.specs.Codes.{accepted, code}
 use Rattle.lists.specs.Search.{allTo}
 use Rattle.residues.specs.Primes.{isPrime, allBelow}
-use Rattle.residues.specs.Field.{inverseBelow}
-use Rattle.matrices.specs.Tables.{pivotOf, scaled, fused, cleared, eachRow, eliminatedFrom, pivotsFrom}
+use Rattle.matrices.specs.Tables.{pivotOf, crossed, cleared, eachRow, eliminatedFrom, pivotsFrom}
 use Rattle.lists.specs.Bits.{hasBit}
 use Rattle.lists.specs.Lists.{tab, joinTo, picked}
 use Rattle.lists.specs.Sums.{sumTo, howMany}
@@ -28,18 +27,18 @@ four = 1 ∷ 0 ∷ 0 ∷ 0 ∷ 1 ∷ 0 ∷ 0 ∷ 0 ∷ 1 ∷ 4 ∷ 4 ∷ 4 ∷ [
 -- with T 1 the plan is accepted alone, and with relays 1 and 2, or 2 and 4, under one lock
 four-accepts : vetCode (plan 4 1 1 3 5) four ≡ accepted
 unfolding isPrime allTo allBelow columnSum sumTo tab pairsWith observers picked joinTo howMany hasBit firstHit dependent baseTable clusterSum membersFrom
-    reducedBy outsiderMask testedMask pivotOf scaled fused cleared eachRow eliminatedFrom pivotsFrom inverseBelow
+    reducedBy outsiderMask testedMask pivotOf crossed cleared eachRow eliminatedFrom pivotsFrom
 four-accepts = sym (walk-code (plan 4 1 1 3 5) four refl)
 
 pub first-two : jointCode (plan 4 1 1 3 5) four (Relays 1 2) ≡ accepted
 unfolding isPrime allTo allBelow columnSum sumTo tab pairsWith observers picked joinTo howMany hasBit firstHit dependent baseTable clusterSum membersFrom
-    reducedBy outsiderMask testedMask jointMask pivotOf scaled fused cleared eachRow eliminatedFrom pivotsFrom inverseBelow
+    reducedBy outsiderMask testedMask jointMask pivotOf crossed cleared eachRow eliminatedFrom pivotsFrom
 first-two =
     sym (joint-found (plan 4 1 1 3 5) four refl 1 2 ∙ joint-decides (plan 4 1 1 3 5) four 1 2 (sym four-accepts) refl)
 
 pub second-and-last : jointCode (plan 4 1 1 3 5) four (Relays 2 4) ≡ accepted
 unfolding isPrime allTo allBelow columnSum sumTo tab pairsWith observers picked joinTo howMany hasBit firstHit dependent baseTable clusterSum membersFrom
-    reducedBy outsiderMask testedMask jointMask pivotOf scaled fused cleared eachRow eliminatedFrom pivotsFrom inverseBelow
+    reducedBy outsiderMask testedMask jointMask pivotOf crossed cleared eachRow eliminatedFrom pivotsFrom
 second-and-last =
     sym (joint-found (plan 4 1 1 3 5) four refl 2 4 ∙ joint-decides (plan 4 1 1 3 5) four 2 4 (sym four-accepts) refl)
 

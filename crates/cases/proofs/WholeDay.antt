@@ -14,9 +14,8 @@ use Rattle.lists.specs.Lists.{at, tab, joinTo, picked}
 use Rattle.lists.specs.Search.{allTo}
 use Rattle.lists.specs.Sums.{sumTo, howMany}
 use Rattle.residues.specs.Primes.{isPrime, allBelow}
-use Rattle.residues.specs.Field.{inverseBelow}
 use Rattle.residues.proofs.PrimeLaws.{below-at}
-use Rattle.matrices.specs.Tables.{pivotOf, scaled, fused, cleared, eachRow, eliminatedFrom, pivotsFrom}
+use Rattle.matrices.specs.Tables.{pivotOf, crossed, cleared, eachRow, eliminatedFrom, pivotsFrom}
 use Rattle.secrecy.specs.Model.{Pool, columnSum, inCoalition, reading, key, upload, total, blocks, known, view}
 use Rattle.secrecy.specs.Counts.{count}
 use Rattle.secrecy.specs.Leaks.{Symbols, Agree, ServerAgree}
@@ -259,7 +258,7 @@ signed-pool = poolOf (plan 2 1 0 1 17) (1 ∷ 16 ∷ [])
 
 signed-accepts : vetCode (plan 2 1 0 1 17) (1 ∷ 16 ∷ []) ≡ accepted
 unfolding isPrime allTo allBelow columnSum sumTo tab pairsWith observers picked joinTo howMany hasBit firstHit dependent baseTable clusterSum membersFrom
-    reducedBy outsiderMask testedMask pivotOf scaled fused cleared eachRow eliminatedFrom pivotsFrom inverseBelow
+    reducedBy outsiderMask testedMask pivotOf crossed cleared eachRow eliminatedFrom pivotsFrom
 signed-accepts = sym (walk-code (plan 2 1 0 1 17) (1 ∷ 16 ∷ []) refl)
 
 -- −3 and 4 in round 7, −4 and −4 in round 8; and a day with the same totals
