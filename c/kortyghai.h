@@ -104,7 +104,7 @@ enum kortyghai_refusal {
     KORTYGHAI_BAD_TRAILER = 5,       /* a record or save whose end is missing or wrong */
     KORTYGHAI_NOT_ZERO_SUM = 6,      /* the key table's rows don't sum to zero; first: the first such column, from 1 */
     KORTYGHAI_LEAKS = 7,             /* the plan leaks; first: the coalition, second: a relay's number, or 0 for the server */
-    KORTYGHAI_UNKNOWN_NUMBER = 8,    /* a user, relay or pool that there is not, or a pair of relays equal or reversed */
+    KORTYGHAI_UNKNOWN_NUMBER = 8,    /* no such user, relay or pool; two relays equal or reversed; in a ring, two not linked */
     KORTYGHAI_BAD_BLOCK_LENGTH = 9,  /* L outside 1 to 64 */
     KORTYGHAI_LIMIT_TOO_LARGE = 10,  /* the table maker is given T not less than (U - 1) x V */
     KORTYGHAI_ALREADY_REPORTED = 11, /* this sender has already reported in the frame's round */
@@ -135,33 +135,33 @@ static inline unsigned kortyghai_second(uint64_t answer) {
     return (unsigned)(answer >> 32 & 0xFFFF);
 }
 
-/* What has happened, in plain words. */
+/* What has happened, in plain words, without the details; the words of Rust's Refusal::meaning, and the tool's. */
 static inline const char *kortyghai_refusal_text(unsigned number) {
     static const char *const texts[KORTYGHAI_REFUSALS] = {
         "nothing is wrong",
         "a count is outside its bounds",
-        "q is not a prime number, or too small for a wide record",
+        "q is not a prime number, or is below 65,536 in a wide record",
         "a symbol is not below q",
-        "a table, block or record has the wrong length",
-        "the end of the record or save is not a trailer: it is cut off or is none",
-        "the key table's rows don't sum to zero in this column",
-        "the plan leaks to this coalition and observer",
-        "a user, relay or pool number that there is not",
+        "a table, block, buffer or record has the wrong length",
+        "the bytes don't end with a trailer that leads back to a record or save",
+        "the key table's rows don't sum to zero",
+        "the plan leaks",
+        "there is no such user, relay, pool or pair of relays",
         "the block length is not from 1 to 64",
-        "the coalition limit is one that no table can meet",
+        "no table can meet this coalition limit",
         "this sender has already reported in the frame's round",
-        "not everyone has reported yet, or there is no total yet",
+        "not everyone has reported yet, or a window has no total yet",
         "the key stream has too few symbols left",
         "the frame belongs to another round, or there is no next round",
         "a signed reading is outside the cap",
-        "the cap is 0 or too large for the plan's prime",
+        "the cap is 0, or too large for q",
         "the window's span is not from 1 to 96, or the window is damaged",
         "the number of rounds is not from 1 to 10,000, or the run is over",
-        "the two relays together leak to this coalition",
+        "two relays under one lock leak",
         "the draw would pass the pool's limit",
-        "the stock's reserves don't fit, or the stock is damaged",
-        "the network's links or the symbols of a reading are outside their bounds",
-        "the sums that have arrived don't give the totals",
+        "a reserve is above its limit, the reserves are above the stream, or the stock is damaged",
+        "the relays of a user are not 1 to K, or the symbols of a reading not 1 to 4",
+        "the sums that have arrived don't give all totals",
     };
     return number < KORTYGHAI_REFUSALS ? texts[number] : "no such number";
 }

@@ -262,7 +262,7 @@ static void zeros(void) {
 
 static void texts(void) {
     CHECK(strcmp(kortyghai_refusal_text(0), "nothing is wrong") == 0);
-    CHECK(strcmp(kortyghai_refusal_text(23), "the sums that have arrived don't give the totals") == 0);
+    CHECK(strcmp(kortyghai_refusal_text(23), "the sums that have arrived don't give all totals") == 0);
     CHECK(strcmp(kortyghai_refusal_text(24), "no such number") == 0);
     for (unsigned n = 0; n < KORTYGHAI_REFUSALS; n++) CHECK(strlen(kortyghai_refusal_text(n)) > 10);
 }

@@ -30,7 +30,8 @@ pub enum Refusal {
         /// The first observer that it leaks to: a relay's number, or 0 for the server.
         observer: u16,
     },
-    /// 8: a user, relay or pool number that there isn't, or a round that says such a one has reported.
+    /// 8: a user, relay or pool number that there isn't, a round that says such a one has reported, a pair of relays that are equal or reversed, or, in a
+    /// network, a user and a relay that are not linked.
     UnknownNumber,
     /// 9: the block length is not from 1 to 64.
     BadBlockLength,
@@ -44,7 +45,7 @@ pub enum Refusal {
     StreamTooShort,
     /// 14: the frame is of another round, or there is no next round.
     OtherRound,
-    /// 15: a reading is outside the cap.
+    /// 15: a signed reading is outside the cap.
     OutsideCap,
     /// 16: the cap is 0, or too large for the plan's prime.
     BadCap,
@@ -164,17 +165,17 @@ impl Refusal {
             Refusal::NotPrime => "q is not a prime number, or is below 65,536 in a wide record",
             Refusal::NotASymbol => "a symbol is not below q",
             Refusal::WrongLength => "a table, block, buffer or record has the wrong length",
-            Refusal::BadTrailer => "the bytes don't end with a trailer that leads back to a record",
+            Refusal::BadTrailer => "the bytes don't end with a trailer that leads back to a record or save",
             Refusal::NotZeroSum { .. } => "the key table's rows don't sum to zero",
             Refusal::Leaks { .. } => "the plan leaks",
-            Refusal::UnknownNumber => "there is no user, relay or pool with this number",
+            Refusal::UnknownNumber => "there is no such user, relay, pool or pair of relays",
             Refusal::BadBlockLength => "the block length is not from 1 to 64",
             Refusal::LimitTooLarge => "no table can meet this coalition limit",
             Refusal::AlreadyReported => "this sender has already reported in the frame's round",
             Refusal::NotFull => "not everyone has reported yet, or a window has no total yet",
             Refusal::StreamTooShort => "the key stream has too few symbols left",
             Refusal::OtherRound => "the frame belongs to another round, or there is no next round",
-            Refusal::OutsideCap => "a reading is outside the cap",
+            Refusal::OutsideCap => "a signed reading is outside the cap",
             Refusal::BadCap => "the cap is 0, or too large for q",
             Refusal::BadWindow => "the window's span is not from 1 to 96, or the window is damaged",
             Refusal::BadRounds => "the number of rounds is not from 1 to 10,000, or the run is over",
@@ -182,7 +183,7 @@ impl Refusal {
             Refusal::PastLimit => "the draw would pass the pool's limit",
             Refusal::BadStock => "a reserve is above its limit, the reserves are above the stream, or the stock is damaged",
             Refusal::BadPattern => "the relays of a user are not 1 to K, or the symbols of a reading not 1 to 4",
-            Refusal::NotDecodable => "the sums that arrived don't give all totals",
+            Refusal::NotDecodable => "the sums that have arrived don't give all totals",
             Refusal::Other { .. } => "a refusal that this version doesn't know",
         }
     }

@@ -393,6 +393,15 @@ fn refusals_and_their_numbers() {
     assert_eq!(Refusal::unpack(19 + (9 << 16)), Err(Refusal::JointLeaks { coalition: 9 }));
 }
 
+/// C has the same words, in the order of the numbers.
+#[test]
+fn one_wording_with_c() {
+    let (_, behind) = include_str!("../../c/kortyghai.h").split_once("texts[KORTYGHAI_REFUSALS] = {\n").unwrap();
+    let (texts, _) = behind.split_once("    };").unwrap();
+    let said = texts.lines().skip(1).map(|line| line.trim().trim_end_matches(',').trim_matches('"'));
+    assert!(said.eq((1..=23).map(|number| Refusal::unpack(number).unwrap_err().meaning())));
+}
+
 /// A plan of the same shape with the largest prime of 32 bits. Modulo it 65,536 times 65,536 is 5, so the powers in the table are easily followed.
 const WIDE: Plan = Plan { q: MAX_Q, ..SMALL };
 
