@@ -114,6 +114,15 @@ fn show_prints_the_plan() {
     let (status, out, err) = told(&["show", "-"], &SMALL[..33]);
     assert_eq!((status, &out[..]), (1, ""));
     assert!(err.starts_with("kortyghai: refused (5): "), "{err}");
+    // a record in the midst of a file that is too long for the vet is none at its end
+    let mut long = vec![0; 65_536 - 34];
+    long.extend(SMALL);
+    assert_eq!(told(&["show", "-"], &long[1..]), (0, wanted.to_string(), String::new()));
+    for behind in [0, 100] {
+        let (status, out, err) = told(&["show", "-"], &[&long[..], &vec![0; behind]].concat());
+        assert_eq!((status, &out[..]), (1, ""));
+        assert!(err.starts_with("kortyghai: refused (4): "), "{err}");
+    }
 }
 
 /// A file of the repository.
@@ -213,6 +222,21 @@ fn wrong_usage_is_2() {
         let (status, out, err) = told(words, &SMALL);
         assert_eq!((status, &out[..]), (2, ""), "{words:?}");
         assert!(err.starts_with("kortyghai: "), "{words:?}: {err}");
+    }
+}
+
+/// Exit statuses where standard output, or standard error, takes nothing.
+#[test]
+fn statuses_where_nothing_can_be_written() {
+    let full = || Stdio::from(std::fs::OpenOptions::new().write(true).open("/dev/full").unwrap());
+    let tool = || Command::new(env!("CARGO_BIN_EXE_kortyghai"));
+    for (words, status) in [(&["dance"][..], 2), (&["pairs", "9", "2", "1"], 1), (&["pairs", "2", "2", "1"], 0)] {
+        assert_eq!(tool().args(words).stderr(full()).output().unwrap().status.code(), Some(status), "{words:?}");
+    }
+    for words in [&["--help"][..], &["vet", &example("small-limit-2.plan")], &["simulate", &example("made-4-4-6.plan"), "2000", "10000"]] {
+        let output = tool().args(words).stdout(full()).output().unwrap();
+        assert_eq!(output.status.code(), Some(2), "{words:?}");
+        assert!(output.stderr.starts_with(b"kortyghai: standard output can't be written: "), "{words:?}");
     }
 }
 

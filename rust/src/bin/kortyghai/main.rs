@@ -58,14 +58,19 @@ fn main() -> ExitCode {
     match run(&words, &arguments) {
         Ok(status) => status,
         Err(Failure::Refused(refusal, size)) => {
-            eprintln!("kortyghai: refused ({}): {}", refusal.number(), words::of(&refusal, size));
+            tell(&format!("kortyghai: refused ({}): {}\n", refusal.number(), words::of(&refusal, size)));
             ExitCode::from(REFUSED)
         }
         Err(Failure::Usage(what)) => {
-            eprintln!("kortyghai: {what}");
+            tell(&format!("kortyghai: {what}\n"));
             ExitCode::from(WRONG_USAGE)
         }
     }
+}
+
+/// Words for people, to standard error. Where they can't be written the exit status still says what happened.
+fn tell(words: &str) {
+    let _ = io::stderr().write_all(words.as_bytes());
 }
 
 /// One arm for each command; `given` are the same words as they came, for names of files.
@@ -137,6 +142,10 @@ fn pairs(counts: Counts) -> Outcome {
 }
 
 fn show(bytes: &[u8]) -> Outcome {
+    // of a longer file the end is missing here, and with it the record; the core refuses so many bytes, whatever they are
+    if bytes.len() > MAX_BYTES {
+        kortyghai::vet_record(bytes)?;
+    }
     print(&words::shown(&KeyTable::read_record(bytes)?))
 }
 
@@ -144,15 +153,13 @@ fn show(bytes: &[u8]) -> Outcome {
 fn simulate(record: &[u8], cap: u32, rounds: u32) -> Outcome {
     let (plan, counts) = plan_in(record);
     let bytes = [&cap.to_le_bytes(), &rounds.to_le_bytes(), record].concat();
-    let lines = waited(counts, move || {
-        let mut run = PaperRun::open(&bytes)?;
-        let mut lines = Vec::new();
-        while !run.is_over() {
-            lines.extend_from_slice(run.next_line()?.as_bytes());
-        }
-        Ok(lines)
-    });
-    put(&lines.map_err(|refusal| Failure::Refused(refusal, plan.map(|plan| plan.size)))?, ACCEPTED)
+    let opened = waited(counts, move || PaperRun::open(&bytes));
+    let mut run = opened.map_err(|refusal| Failure::Refused(refusal, plan.map(|plan| plan.size)))?;
+    let mut lines = Vec::new();
+    while !run.is_over() {
+        lines.extend_from_slice(run.next_line()?.as_bytes());
+    }
+    put(&lines, ACCEPTED)
 }
 
 /// The plan of a record, where it can be read, and its counts, which are 0 where it can't.
@@ -191,12 +198,12 @@ fn waited<T: Send + 'static>(counts: Counts, call: impl FnOnce() -> T + Send + '
     while let Err(mpsc::RecvTimeoutError::Timeout) = heard.recv_timeout(PATIENCE) {
         if seen {
             let pairs = counts.pairs().unwrap_or(0);
-            eprint!("\rvetting: {pairs} pairs of coalition and observer, {:.1} s", start.elapsed().as_secs_f64());
+            tell(&format!("\rvetting: {pairs} pairs of coalition and observer, {:.1} s", start.elapsed().as_secs_f64()));
             lines += 1;
         }
     }
     if lines > 0 {
-        eprintln!();
+        tell("\n");
     }
     caller.join().expect("the proved functions end and don't panic")
 }

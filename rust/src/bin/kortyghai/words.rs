@@ -51,7 +51,7 @@ pub fn accepted(plan: Option<&Plan>) -> String {
     let joined = match limit {
         0 => "alone".to_string(),
         1 => "alone or with any one user".to_string(),
-        limit => format!("alone or with any {limit} users"),
+        limit => format!("alone or with any coalition of at most {limit} users"),
     };
     format!("accepted: no relay, and not the server, learns more than it may, {joined}\n")
 }
