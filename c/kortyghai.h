@@ -607,8 +607,8 @@ uint64_t kortyghai_network_decode(const uint32_t counts[KORTYGHAI_RING_NUMBERS],
                                   size_t sums_len, uint32_t *out, size_t out_len);
 
 /*
- * A POOL ON PAPER: rounds of a plan with keys and readings from a small generator, to see the numbers before a meter is
- * hung. It starts from state 1; the state becomes state x 1,103,515,245 + 12,345 modulo 2^32, and the value drawn is
+ * A POOL ON PAPER: rounds of a plan with keys and readings from a small generator, to see the numbers before the first user
+ * is there. It starts from state 1; the state becomes state x 1,103,515,245 + 12,345 modulo 2^32, and the value drawn is
  * state / 65,536 modulo 32,768. A round draws R source symbols, a value modulo q each; then the users' readings in index
  * order, a value modulo cap + 1 each; then who sends next, a value modulo the number of users still owing, counted from 0
  * in index order. Such keys hide nothing.
@@ -635,8 +635,9 @@ uint64_t kortyghai_paper_open(const uint8_t *bytes, size_t bytes_len, uint32_t p
  *     line     56 places: the text is put there, and 0 past it
  *     length   how many bytes it has is put there
  *
- * A run that is handed over may be anything; the table is held to be one of symbols and not vetted again. Refuses, the first
- * that holds: 18 (rounds outside 1 to 10,000, or the number is none of them, as after the last round), 1, 2, 3, 16.
+ * A run that is handed over may be anything; its table is not vetted again, and what stands past its U x V x R symbols decides
+ * nothing. Refuses, the first that holds: 18 (rounds outside 1 to 10,000, or the number is none of them, as after the last
+ * round), 1, 2, 3 (table), 16.
  */
 uint64_t kortyghai_paper_line(const uint32_t plan[KORTYGHAI_PLAN_NUMBERS], const uint32_t table[KORTYGHAI_MAX_TABLE],
                               uint32_t run[KORTYGHAI_PAPER_NUMBERS], uint8_t line[KORTYGHAI_MAX_LINE], size_t *length);

@@ -65,11 +65,12 @@ static void damage_bytes(struct paper_call *x) {
 
 static void damage_run(struct kortyghai_paper *paper) {
     uint32_t *plan = paper->table.plan.numbers, *numbers = paper->numbers;
-    switch (below(9)) {
+    switch (below(10)) {
     case 0: plan[below(4)] = wrong_count(16); break;
     case 1: plan[4] = no_prime(); break;
     case 2: paper->table.symbols[below(16)] = plan[4] + (uint32_t)below(2); break;
     case 3: paper->table.symbols[below(KORTYGHAI_MAX_TABLE)] = some_symbol(plan[4]); break; /* no zero-sum table, and so what */
+    case 8: paper->table.symbols[below(KORTYGHAI_MAX_TABLE)] = (uint32_t)draw_number(); break; /* past the table too */
     case 4: numbers[KORTYGHAI_PAPER_CAP] = once_in(2) ? 0 : largest_cap(plan) + 1; break;
     case 5: numbers[KORTYGHAI_PAPER_ROUNDS] = once_in(2) ? 0 : 10001; break;
     case 6: numbers[KORTYGHAI_PAPER_NUMBER] = once_in(2) ? 0 : numbers[KORTYGHAI_PAPER_ROUNDS] + 1; break;

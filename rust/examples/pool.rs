@@ -1,11 +1,9 @@
-//! A pool from end to end, on one machine: a planner, sixteen meters, four gateways and the desk. Run it by
+//! A pool from end to end, on one machine: a planner, sixteen users (meters), four relays (gateways) and the server (the desk). Run it by
 //!
 //!     cargo run --release --example pool
 //!
-//! In a real pool each of the four parts below runs somewhere else, and what goes from one to the other goes over a wire: the planner's record, a
-//! meter's keys, its frames, a gateway's sums.
-//!
-//! The words: a user is a meter, a relay a gateway, the server the desk.
+//! In a real pool each of the five parts below runs somewhere else, and what goes from one to the other goes over a wire: the planner's record, a
+//! user's keys, its frames, a relay's sums.
 
 use kortyghai::{Counts, KeyStream, KeyTable, Plan, Refusal, RelayRound, ServerRound, Symbol, Window};
 use std::collections::VecDeque;
@@ -18,7 +16,7 @@ const COUNTS: Counts = Counts { clusters: 4, size: 4, limit: 3 };
 const CAP: u32 = 100_000;
 const Q: Symbol = 4_294_967_291;
 
-/// A block has three positions: three quantities that are metered at once.
+/// A block has three positions: three quantities that are read at once.
 const LENGTH: usize = 3;
 
 const ROUNDS: u32 = 8;
@@ -66,7 +64,7 @@ fn deal(table: &KeyTable, stream: &mut KeyStream) -> Result<Vec<Symbol>, Refusal
     Ok(keys)
 }
 
-// ---- a meter
+// ---- a user
 
 /// What a user sends: sender, round number, and the readings under the round's key.
 struct Frame {
@@ -84,7 +82,7 @@ fn frame(plan: &Plan, index: usize, round: u32, readings: &[i32; LENGTH], keys: 
     Ok(Frame { cluster: index / size, sender: index % size + 1, round, block })
 }
 
-// ---- a gateway
+// ---- a relay
 
 /// A relay with the memory that outlives a power cut: saves, one after the other.
 struct Relay {
@@ -123,14 +121,14 @@ impl Relay {
     }
 }
 
-// ---- the desk
+// ---- the server
 
-struct Desk {
+struct Server {
     plan: Plan,
     window: Window,
 }
 
-impl Desk {
+impl Server {
     /// A round from its opening to the shown totals: exact sums of all readings, and nothing else is known here.
     fn total(&mut self, number: u32, sums: &[[Symbol; LENGTH]]) -> Result<[i32; LENGTH], Refusal> {
         let mut round = ServerRound::open(&self.plan, LENGTH as u32, number)?;
@@ -162,7 +160,7 @@ fn mixed(mut frames: VecDeque<Frame>, dice: &mut Dice) -> VecDeque<Frame> {
 type Reading = (u32, [i32; LENGTH]);
 
 /// The frames of all users in all rounds, and what they read, to compare with.
-fn metered(table: &KeyTable, dice: &mut Dice) -> Result<(VecDeque<Frame>, Vec<Reading>), Refusal> {
+fn read_and_sent(table: &KeyTable, dice: &mut Dice) -> Result<(VecDeque<Frame>, Vec<Reading>), Refusal> {
     let plan = table.plan();
     // the key stream: see `Dice`
     let symbols: Vec<Symbol> = (0..plan.rate as u64 * LENGTH as u64 * ROUNDS as u64).map(|_| dice.below(Q as u64) as Symbol).collect();
@@ -181,15 +179,15 @@ fn metered(table: &KeyTable, dice: &mut Dice) -> Result<(VecDeque<Frame>, Vec<Re
     Ok((frames, readings))
 }
 
-/// The gateways, the wires to the desk, and the desk.
+/// The relays, the wires to the server, and the server.
 struct Day {
     relays: Vec<Relay>,
     /// What relay 1 has counted since its last save.
     since_the_save: Vec<Frame>,
     /// The sums that each relay has sent, round by round.
     sums: Vec<Vec<[Symbol; LENGTH]>>,
-    desk: Desk,
-    /// The round that the desk is in.
+    server: Server,
+    /// The round that the server is in.
     round: u32,
     early: usize,
 }
@@ -197,8 +195,8 @@ struct Day {
 impl Day {
     fn new(plan: Plan) -> Result<Day, Refusal> {
         let relays = (0..4).map(|cluster| Relay::open(&plan, cluster)).collect::<Result<_, _>>()?;
-        let desk = Desk { plan, window: Window::open(4)? };
-        Ok(Day { relays, since_the_save: Vec::new(), sums: vec![Vec::new(); 4], desk, round: 1, early: 0 })
+        let server = Server { plan, window: Window::open(4)? };
+        Ok(Day { relays, since_the_save: Vec::new(), sums: vec![Vec::new(); 4], server, round: 1, early: 0 })
     }
 
     /// A frame at its relay. One that is much too early, of the round after the next, is given back.
@@ -243,14 +241,14 @@ impl Day {
         Ok(())
     }
 
-    /// The desk has its total as soon as all four have sent their sums of its round.
+    /// The server has its total as soon as all four have sent their sums of its round.
     fn settle(&mut self, readings: &[Reading]) -> Result<(), Refusal> {
         while self.sums.iter().all(|sent| sent.len() >= self.round as usize) {
             let blocks: Vec<_> = self.sums.iter().map(|sent| sent[self.round as usize - 1]).collect();
-            let shown = self.desk.total(self.round, &blocks)?;
+            let shown = self.server.total(self.round, &blocks)?;
             let of_round = || readings.iter().filter(|read| read.0 == self.round);
             assert_eq!(shown, [0, 1, 2].map(|p| of_round().map(|read| read.1[p]).sum::<i32>()));
-            let (sum, most) = (self.desk.window.sum()?, self.desk.window.largest()?);
+            let (sum, most) = (self.server.window.sum()?, self.server.window.largest()?);
             println!("round {}: totals {shown:?}; the last four first ones are {sum} in sum and {most} at most", self.round);
             self.round += 1;
         }
@@ -263,7 +261,7 @@ pub fn main() -> Result<(), Refusal> {
     let record = plan_the_pool()?;
     // everyone reads the record
     let table = KeyTable::read_record(&record)?;
-    let (frames, readings) = metered(&table, &mut dice)?;
+    let (frames, readings) = read_and_sent(&table, &mut dice)?;
     let mut waiting = mixed(frames, &mut dice);
 
     let mut day = Day::new(*table.plan())?;

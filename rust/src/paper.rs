@@ -6,7 +6,7 @@ use core::fmt;
 /// The bytes before a record: the cap and the number of rounds, four each, low byte first.
 const HEAD: usize = 8;
 
-/// Rounds of a plan on paper, with keys and readings from a small generator: to see the numbers before a meter is hung. Each round gives a [`PaperLine`].
+/// Rounds of a plan on paper, with keys and readings from a small generator: to see the numbers before the first user is there. Each round gives a [`PaperLine`].
 ///
 /// The generator starts from state 1; the state becomes state × 1,103,515,245 + 12,345 modulo 2³², and the value drawn is state / 65,536 modulo 32,768. A
 /// round draws R source symbols, a value modulo q each; then the users' readings in index order, a value modulo cap + 1 each; then who sends next, a value
