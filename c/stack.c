@@ -274,15 +274,17 @@ struct entry {
 };
 
 static const struct entry entries[] = {
-    {"vet", vet}, {"vet_joint", vet_joint}, {"check_prime", check_prime}, {"count_pairs", count_pairs}, {"rate", find_rate}, {"make_table", make_table},
-    {"vet_record", vet_record}, {"read_record", read_record}, {"write_record", write_record}, {"derive_keys", derive_keys}, {"draw", draw},
-    {"stock_open", stock_open}, {"stock_draw", stock_draw}, {"upload", upload}, {"unmask", unmask}, {"signed_upload", signed_upload},
-    {"signed_unmask", signed_unmask}, {"relay_open", relay_open}, {"relay_count", relay_count}, {"relay_give", relay_give},
-    {"relay_save", relay_save}, {"relay_restore", relay_restore}, {"relay_advance", relay_advance}, {"server_open", server_open},
-    {"server_count", server_count}, {"server_give", server_give}, {"show_totals", show_totals}, {"window_open", window_open},
-    {"window_push", window_push}, {"window_sum", window_sum}, {"window_largest", window_largest}, {"network_vet", network_vet},
-    {"network_upload", network_upload}, {"network_sum", network_sum}, {"network_decode", network_decode}, {"paper_open", paper_open},
-    {"paper_line", paper_line}};
+    {"kty_vet", vet}, {"kty_vet_joint", vet_joint}, {"kortyghai_check_prime", check_prime}, {"kty_count_pairs", count_pairs},
+    {"kty_rate", find_rate}, {"kty_make_table", make_table}, {"kortyghai_vet_record", vet_record}, {"kty_read_record", read_record},
+    {"kty_write_record", write_record}, {"kty_derive_keys", derive_keys}, {"kty_draw", draw}, {"kty_stock_open", stock_open},
+    {"kty_stock_draw", stock_draw}, {"kty_upload", upload}, {"kty_unmask", unmask}, {"kty_signed_upload", signed_upload},
+    {"kty_signed_unmask", signed_unmask}, {"kty_relay_open", relay_open}, {"kty_relay_count", relay_count}, {"kty_relay_give", relay_give},
+    {"kty_relay_save", relay_save}, {"kty_relay_restore", relay_restore}, {"kty_relay_advance", relay_advance},
+    {"kty_server_open", server_open}, {"kty_server_count", server_count}, {"kty_server_give", server_give},
+    {"kty_show_totals", show_totals}, {"kty_window_open", window_open}, {"kty_window_push", window_push}, {"kty_window_sum", window_sum},
+    {"kty_window_largest", window_largest}, {"kty_network_vet", network_vet}, {"kty_network_upload", network_upload},
+    {"kty_network_sum", network_sum}, {"kty_network_decode", network_decode}, {"kty_paper_open", paper_open},
+    {"kty_paper_line", paper_line}};
 
 int main(void) {
     size_t around;
@@ -290,6 +292,6 @@ int main(void) {
     around = depth_of(nothing);
     printf("| call | bytes of stack |\n|---|---|\n");
     for (size_t i = 0; i < sizeof entries / sizeof *entries; i++)
-        printf("| `kty_%s` | %zu |\n", entries[i].name, depth_of(entries[i].run) - around);
+        printf("| `%s` | %zu |\n", entries[i].name, depth_of(entries[i].run) - around);
     return 0;
 }
