@@ -1,7 +1,7 @@
 //! A planner's work: a key table is made, vetted and written as a record, or it is said in words why not.
 //!
 //!     cargo run --release --example planner -- U V T q γ [FILE [RELAY RELAY]]
-//!     cargo run --release --example planner -- 5 2 1 65521 2 /tmp/new.plan 1 2
+//!     cargo run --release --example planner -- 5 2 1 65521 2 ../target/new.plan 1 2
 //!
 //! U clusters (each with one relay) of V users, coalitions of at most T users, a table of powers of γ modulo the prime q. FILE gets the record; `-` stands
 //! for none. The two relays stand under one lock: whoever opens it sees what both hear. Without arguments: 5 2 1 65521 2. The exit status is 0 where the
