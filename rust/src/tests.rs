@@ -393,10 +393,12 @@ fn refusals_and_their_numbers() {
     assert_eq!(Refusal::unpack(19 + (9 << 16)), Err(Refusal::JointLeaks { coalition: 9 }));
 }
 
-/// C has the same words, in the order of the numbers.
+/// C's header has the same version, and the same words in the order of the numbers.
 #[test]
 fn one_wording_with_c() {
-    let (_, behind) = include_str!("../../c/kortyghai.h").split_once("texts[KORTYGHAI_REFUSALS] = {\n").unwrap();
+    let header = include_str!("../../c/kortyghai.h");
+    assert!(header.contains(concat!("#define KORTYGHAI_VERSION \"", env!("CARGO_PKG_VERSION"), "\"\n")));
+    let (_, behind) = header.split_once("texts[KORTYGHAI_REFUSALS] = {\n").unwrap();
     let (texts, _) = behind.split_once("    };").unwrap();
     let said = texts.lines().skip(1).map(|line| line.trim().trim_end_matches(',').trim_matches('"'));
     assert!(said.eq((1..=23).map(|number| Refusal::unpack(number).unwrap_err().meaning())));
