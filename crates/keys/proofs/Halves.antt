@@ -1,8 +1,7 @@
 -- A difference that may be negative, at a machine's width: what its two halves hold.
 use Prim.Native.Nat.{ℕ, _+_, _-_, _*_, _/_, _%_, _^_, _≤_, _<_}
 use mathlib.Core.Path.{_≡_, sym, ap, ap₂, _∙_}
-use mathlib.Core.Logic.{_⊎_, ⊎-elim}
-use native.Mathlib.Nat.{mul-le-mul, mod-eq-of-lt, div-eq-of-lt, div-eq-of-lt-le, add-mul-mod-self-left}
+use native.Mathlib.Nat.{mul-le-mul, mod-eq-of-lt, div-eq-of-lt, add-mul-mod-self-left}
 use native.Mathlib.Omega.{arith}
 use native.Mathlib.Decide.{decLt}
 use lib.Bits.{bitAnd, and-mask, and-zero-r}

@@ -1,13 +1,12 @@
 -- Individual keys: what each user's row makes, where each key stands in the derived list, and what the checks say.
 use Prim.Native.Nat.{ℕ, _+_, _*_, _%_, _≤_, _<_}
 use mathlib.Core.Path.{_≡_, refl, sym, ap, ap₂, _∙_}
-use mathlib.Core.Bool.{Bool, true, _&&_}
-use mathlib.Core.List.{List, [], _∷_}
+use mathlib.Core.Bool.{true, _&&_}
+use mathlib.Core.List.{List}
 use native.Mathlib.Omega.{arith}
 use lib.ListN.{length, take, drop}
 use lib.Dec.{eqb, eqb→eq}
 use borrow.Author.Tests.{not-false}
-use Rattle.refusals.specs.declared.Code.{Code}
 use Rattle.refusals.specs.Codes.{accepted, firstOf, ifAccepted}
 use Rattle.refusals.proofs.CodeLaws.{none-holds, accepted-takes}
 use Rattle.residues.specs.Primes.{Prime, allBelow}

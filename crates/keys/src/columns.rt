@@ -1,6 +1,6 @@
 // A source key turned: its symbols stand position by position, and turned product by product, so that those of one product stand side by side.
 ghost use mathlib.Core.Path.{_≡_};
-ghost use Prim.Native.Nat.{_+_, _*_, _<_, _≤_};
+ghost use Prim.Native.Nat.{_+_, _*_, _<_};
 ghost use lib.ListN.{length};
 ghost use Rattle.lists.specs.Lists.{at, tab, joinTo};
 use arithmetic::Symbol;

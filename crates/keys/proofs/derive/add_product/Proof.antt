@@ -1,11 +1,10 @@
 -- What is held in each position after the product is the sum of one product more.
 use borrow.Author.Needs.{needs}
-use mathlib.Core.Path.{_≡_, _∙_}
-use Prim.Native.Nat.{ℕ, _+_, _-_, _*_, _<_, _≤_}
+use mathlib.Core.Path.{_∙_}
+use Prim.Native.Nat.{ℕ, _+_, _-_, _*_, _≤_}
 use native.Mathlib.Nat.{add-sub-cancel-left}
 use native.Mathlib.Omega.{arith}
-use lib.ListN.{length, take, drop}
-use Rattle.lists.specs.Lists.{at}
+use lib.ListN.{length}
 use Rattle.lists.proofs.Fronts.{row-fits, length-part, part-at}
 use Rattle.keys.proofs.SumLaws.{sums-below, sums-next}
 use Rattle.keys.proofs.derive.add_product.Statement.{statement}

@@ -4,7 +4,7 @@ use mathlib.Core.List.{List}
 use Prim.Native.Nat.{ℕ, _+_, _*_, _<_}
 use native.Mathlib.Omega.{arith}
 use lib.ListN.{length}
-use Rattle.lists.specs.Lists.{at, tab}
+use Rattle.lists.specs.Lists.{tab}
 use Rattle.lists.proofs.ListLaws.{length-tab}
 use Rattle.lists.proofs.Joins.{length-join}
 use Rattle.plans.specs.Plans.{usersOf}
