@@ -326,6 +326,9 @@ uint64_t kortyghai_write_record(const uint32_t plan[KORTYGHAI_PLAN_NUMBERS], con
  *     source   the source key, exactly R x L symbols, position by position
  *     keys     exactly U x V x L symbols: the keys are put there, user by user in index order, L symbols each
  *
+ * A copy of the source key stays behind in the stack memory below the caller: who clears `source` after use should clear
+ * that too.
+ *
  * Refuses, the first that holds: the vet's 1, 4, 2, 3, 6, 7, then 9, 4 (source or keys), 3 (source).
  */
 uint64_t kortyghai_derive_keys(const uint32_t plan[KORTYGHAI_PLAN_NUMBERS], const uint32_t *table, size_t table_len, size_t length,

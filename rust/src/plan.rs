@@ -236,7 +236,7 @@ impl KeyTable {
     ///
     /// `source` is the source key, exactly R × L symbols, position by position: **drawn evenly, fresh, and used once**. The key of a user in a position
     /// is the sum of its row times the position's source symbols, modulo q. **The table is judged at each call** (the crate's page says what that
-    /// costs).
+    /// costs). A copy of the source key stays behind in stack memory below the caller's, and nothing clears it.
     ///
     /// # Errors
     ///
