@@ -1,4 +1,4 @@
--- A difference that may be negative, at a machine's width: what its two halves hold.
+-- Differences that may be negative, at a machine's width: what the two halves of one hold, and a sum less q.
 use Prim.Native.Nat.{ℕ, _+_, _-_, _*_, _/_, _%_, _^_, _≤_, _<_}
 use mathlib.Core.Path.{_≡_, sym, ap, ap₂, _∙_}
 use native.Mathlib.Nat.{mul-le-mul, mod-eq-of-lt, div-eq-of-lt, add-mul-mod-self-left}
@@ -49,3 +49,16 @@ module _ (q over under z : ℕ) (short : q < 2 ^ 32) (fits : z < 2 ^ 64) (big : 
       go : Dec (over < under) → (z % 2 ^ 32 + bitAnd q (z / 2 ^ 32)) % 2 ^ 32 ≡ (over + q - under) % q
       go (yes h) = raised-below h
       go (no n) = raised-above (omega arith)
+
+-- z is the sum less what is left of q beside more, at the width
+module _ (q sum more z : ℕ) (short : q < 2 ^ 32) (fits : z < 2 ^ 32) (h : sum < q) (l : more < q) (wraps : (z + (q - more)) % 2 ^ 32 ≡ sum) where
+  -- where the sum is less than that, q is put on it again
+  pub sum-again : sum < q - more → (z + q) % 2 ^ 32 ≡ (sum + more) % q
+  sum-again k = (let e : (z + q) % 2 ^ 32 ≡ sum + more = omega arith in e) ∙ sym (mod-eq-of-lt (omega arith))
+
+  pub sum-past : q - more ≤ sum → (z + 0) % 2 ^ 32 ≡ (sum + more) % q
+  sum-past k =
+      (let e : (z + 0) % 2 ^ 32 ≡ sum + more - q = omega arith in e)
+      ∙ sym (mod-eq-of-lt {n = sum + more - q} {m = q} (omega arith))
+      ∙ sym (add-mul-mod-self-left (sum + more - q) q 1)
+      ∙ ap (λ (n : ℕ). n % q) (let s : sum + more - q + q * 1 ≡ sum + more = omega arith in s)

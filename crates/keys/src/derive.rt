@@ -10,8 +10,10 @@ ghost use Rattle.plans.specs.Plans.{usersOf, inBounds};
 ghost use Rattle.keys.specs.Keys.{keysOf, blockChecks, keyCode, keysAfter, unvettedCode, unvettedAfter};
 use crate::columns::turn;
 use crate::products::add_products;
+use crate::products::reciprocal;
 use crate::verdict::verdict_on;
 use arithmetic::Symbol;
+use arithmetic::Wide;
 use plans::Plan;
 use plans::check_plan;
 use plans::length_fits;
@@ -33,8 +35,16 @@ fn clear(keys: &mut [Symbol])
 }
 
 // One product more in every position: from the sums after k products to those after k + 1.
-fn add_product(q: Symbol, row: &[Symbol], turned: &[Symbol], k: usize, keys: &mut [Symbol])
-    requires { ⌜ (k < length (now row)) × (at (now row) k < q) × (length (now turned) ≡ length (now row) * length (now keys))
+fn add_product(
+    q: Symbol,
+    reciprocal: Wide,
+    row: &[Symbol],
+    turned: &[Symbol],
+    k: usize,
+    keys: &mut [Symbol],
+)
+    requires { ⌜ (k < length (now row)) × (at (now row) k < q) × (reciprocal * q < 18446744073709551616) × (18446744073709551616 ≤ reciprocal * q + q)
+        × (length (now turned) ≡ length (now row) * length (now keys))
         × ((j p : ℕ) → j < length (now row) → p < length (now keys) → at (now turned) (j * length (now keys) + p) < q)
         × (now keys ≡ tab (length (now keys)) (λ p. sumSoFar q (at (now row)) (λ j. at (now turned) (j * length (now keys) + p)) k)) ⌝ }
     ensures { λ _. ⌜ now (keys .exit)
@@ -44,12 +54,13 @@ fn add_product(q: Symbol, row: &[Symbol], turned: &[Symbol], k: usize, keys: &mu
     let positions = keys.len();
     let from = k * positions;
     let to = from + positions;
-    add_products(q, row[k], &turned[from..to], keys);
+    add_products(q, reciprocal, row[k], &turned[from..to], keys);
 }
 
 // The keys of the user with this row: its products with the source symbols from the first to the last. What is held in each position is always the sum so far.
-fn user_keys(q: Symbol, row: &[Symbol], turned: &[Symbol], keys: &mut [Symbol])
-    requires { ⌜ (0 < q) × ((k : ℕ) → k < length (now row) → at (now row) k < q) × (length (now turned) ≡ length (now row) * length (now keys))
+fn user_keys(q: Symbol, reciprocal: Wide, row: &[Symbol], turned: &[Symbol], keys: &mut [Symbol])
+    requires { ⌜ (0 < q) × (reciprocal * q < 18446744073709551616) × (18446744073709551616 ≤ reciprocal * q + q)
+        × ((k : ℕ) → k < length (now row) → at (now row) k < q) × (length (now turned) ≡ length (now row) * length (now keys))
         × ((j p : ℕ) → j < length (now row) → p < length (now keys) → at (now turned) (j * length (now keys) + p) < q) ⌝ }
     ensures { λ _. ⌜ now (keys .exit)
         ≡ tab (length (now (keys .entry)))
@@ -58,12 +69,12 @@ fn user_keys(q: Symbol, row: &[Symbol], turned: &[Symbol], keys: &mut [Symbol])
     clear(keys);
     let mut k = 0;
     while k < row.len() {
-        add_product(q, row, turned, k, keys);
+        add_product(q, reciprocal, row, turned, k, keys);
         k += 1;
     }
 }
 
-// User by user, by each one's row.
+// User by user, by each one's row, with one reciprocal of q for all.
 fn users_keys(
     plan: Plan,
     table: &[Symbol],
@@ -82,13 +93,14 @@ fn users_keys(
     let q = plan.q;
     let users = plan.clusters * plan.size;
     let rate = plan.rate;
+    let once = reciprocal(q);
     let mut i = 0;
     while i < users {
         let b = i * rate;
         let e = b + rate;
         let from = i * positions;
         let to = from + positions;
-        user_keys(q, &table[b..e], turned, &mut keys[from..to]);
+        user_keys(q, once, &table[b..e], turned, &mut keys[from..to]);
         i += 1;
     }
 }

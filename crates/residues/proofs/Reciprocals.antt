@@ -1,27 +1,55 @@
--- Products modulo q without a division by q. Of a number a the reciprocal w is made once: what a is of q as a part of a width M, rounded up. With it the
--- product of a with any b modulo q takes multiplications, and divisions by M alone.
+-- Products modulo q without a division by q. Of a number a the fraction w is what a is of q as a part of a width M, rounded up, or one more. With it the
+-- product of a with any b modulo q takes multiplications, and divisions by M alone; and it comes itself of a reciprocal of q that serves every a.
 use Prim.Native.Nat.{ℕ, _+_, _-_, _*_, _/_, _%_, _≤_, _<_}
 use mathlib.Core.Path.{_≡_, sym, ap, _∙_}
 use native.Mathlib.Nat.{mul-le-mul, le-of-mul-le-mul-right, lt-of-mul-lt-mul-right, mod-lt, mod-eq-of-lt, mul-add-mod-self-right}
 use native.Mathlib.Nat.{div-add-mod', div-mul-le-self, lt-div-mul-add, div-eq-of-lt-le, add-mul-mod-self-left}
 use native.Mathlib.Omega.{arith}
 
--- rounded up by a division
-pub reciprocal-up : (q M a : ℕ) → 0 < q → (a * M ≤ (a * M + (q - 1)) / q * q) × ((a * M + (q - 1)) / q * q < a * M + q)
-reciprocal-up q M a some =
-    let n : ℕ = a * M + (q - 1) in
-    (omega (arith, lt-div-mul-add {a = n} {b = q} some), omega (arith, div-mul-le-self n q))
+-- m is how often q goes into the largest number below M M
+module _ (q M m a : ℕ) (most : m * q < M * M) (near : M * M ≤ m * q + q) (h : a < q) (wide : q < M) where
+  -- a's parts of the width by it, by both halves of m
+  abbrev pub parts : ℕ
+  parts = a * (m / M) + a * (m % M) / M
 
--- a reciprocal is within the width
-pub reciprocal-fits : (q M a w : ℕ) → q ≤ M → a < q → w * q < a * M + q → w < M
-reciprocal-fits q M a w wide h high =
+  -- as a m has whole widths
+  within : (parts * M ≤ a * m) × (a * m < parts * M + M)
+  within =
+      let x : ℕ = a * (m % M) in
+      let split : a * (m / M * M + m % M) ≡ a * m = ap (λ (n : ℕ). a * n) (div-add-mod' m M) in
+      (omega (arith, div-mul-le-self x M), omega (arith, lt-div-mul-add {a = x} {b = M} (omega arith)))
+
+  -- they are not too many, and at most two too few
+  pub parts-under : parts * q ≤ a * M
+  parts-under =
+      le-of-mul-le-mul-right {m = parts * q} {n = a * M} {k = M}
+      (omega (
+        arith,
+        mul-le-mul {n₁ = parts * M} {m₁ = q} {n₂ = a * m} {m₂ = q} (within .0) (omega arith),
+        mul-le-mul {n₁ = a} {m₁ = m * q} {n₂ = a} {m₂ = M * M} (omega arith) (omega arith),
+      ))
+      (omega arith)
+
+  pub parts-over : a * M < parts * q + q + q
+  parts-over =
+      lt-of-mul-lt-mul-right M {m = a * M} {n = parts * q + q + q}
+      (omega (
+        arith,
+        mul-le-mul {n₁ = a * m + 1} {m₁ = q} {n₂ = parts * M + M} {m₂ = q} (omega (arith, within .1)) (omega arith),
+        mul-le-mul {n₁ = a} {m₁ = M * M} {n₂ = a} {m₂ = m * q + q} (omega arith) near,
+        mul-le-mul {n₁ = a} {m₁ = q} {n₂ = M} {m₂ = q} (omega arith) (omega arith),
+      ))
+
+-- a fraction is within the width
+pub fraction-fits : (q M a w : ℕ) → q < M → a < q → w * q ≤ a * M + q → w < M
+fraction-fits q M a w wide h high =
     lt-of-mul-lt-mul-right q
     (omega (arith, mul-le-mul {n₁ = a + 1} {m₁ = M} {n₂ = q} {m₂ = M} (omega arith) (omega arith)))
 
-module _ (q M a b w : ℕ) (low : a * M ≤ w * q) (high : w * q < a * M + q) where
+module _ (q M a b w : ℕ) (low : a * M ≤ w * q) (high : w * q ≤ a * M + q) where
   -- the whole part of w b by the width is that of a b by q, or one more
-  pub reciprocal-over : 0 < M → 0 < q → a * b < w * b / M * q + q
-  reciprocal-over wide some =
+  pub fraction-over : 0 < M → 0 < q → a * b < w * b / M * q + q
+  fraction-over wide some =
       let g : ℕ = w * b / M in
       lt-of-mul-lt-mul-right M
       (omega (
@@ -30,8 +58,8 @@ module _ (q M a b w : ℕ) (low : a * M ≤ w * q) (high : w * q < a * M + q) wh
         mul-le-mul {n₁ = w * b + 1} {m₁ = q} {n₂ = g * M + M} {m₂ = q} (omega (arith, lt-div-mul-add {a = w * b} {b = M} wide)) (omega arith),
       ))
 
-  pub reciprocal-under : b < M → w * b / M * q ≤ a * b + q
-  reciprocal-under h =
+  pub fraction-under : b < M → w * b / M * q ≤ a * b + q
+  fraction-under h =
       let g : ℕ = w * b / M in
       le-of-mul-le-mul-right {m = g * q} {n = a * b + q} {k = M}
       (omega (

@@ -14,7 +14,7 @@ use Rattle.keys.proofs.derive.add_product.Tie as tie
 fits : (s : tie.Start) → (let a = s .args in a .k * length (a .keys .now) + length (a .keys .now) ≤ length (a .turned .now))
 fits s =
     let a = s .args in
-    row-fits (length (a .row .now)) (length (a .keys .now)) (a .k) (length (a .turned .now)) (s .pre .0) (s .pre .2)
+    row-fits (length (a .row .now)) (length (a .keys .now)) (a .k) (length (a .turned .now)) (s .pre .0) (s .pre .4)
 
 mul-from : tie.Need-mul-from
 mul-from c = omega (arith, fits (c .before .before .before))
@@ -36,9 +36,11 @@ add-products-requires c κs =
     let b : ℕ = a .k * L in
     let v : ℕ = b + L - b in (
       s .pre .1,
+      s .pre .2,
+      s .pre .3,
       length-part v b (a .turned .now) (omega (arith, fits s)) ∙ add-sub-cancel-left _ _,
-      λ p h. omega (arith, part-at v b (a .turned .now) p (omega arith), s .pre .3 (a .k) p (s .pre .0) h),
-      sums-below (a .q) (a .row .now) (a .turned .now) L (a .keys .now) (a .k) (s .pre .4) (omega (arith, s .pre .1)),
+      λ p h. omega (arith, part-at v b (a .turned .now) p (omega arith), s .pre .5 (a .k) p (s .pre .0) h),
+      sums-below (a .q) (a .row .now) (a .turned .now) L (a .keys .now) (a .k) (s .pre .6) (omega (arith, s .pre .1)),
     )
 
 returns : tie.Need-returns
@@ -47,7 +49,7 @@ returns c =
     let a = s .args in
     let L : ℕ = length (a .keys .now) in
     c .before .before .add-products .ensures
-    ∙ sums-next (a .q) (a .row .now) (a .turned .now) L (a .keys .now) (a .k) (s .pre .4) (a .k * L + L - a .k * L) (add-sub-cancel-left _ _)
+    ∙ sums-next (a .q) (a .row .now) (a .turned .now) L (a .keys .now) (a .k) (s .pre .6) (a .k * L + L - a .k * L) (add-sub-cancel-left _ _)
 
 pub add-product-spec : {M : Type 1} → statement M
 add-product-spec =

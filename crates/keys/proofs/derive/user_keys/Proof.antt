@@ -11,10 +11,10 @@ use Rattle.keys.proofs.derive.user_keys.Statement.{statement}
 use Rattle.keys.proofs.derive.user_keys.Tie as tie
 
 abbrev Inv-loop : tie.InvT-loop
-Inv-loop q row turned keys₀ k₀ keys k = (k ≤ length row) × (keys ≡ sums q row turned (length keys₀) k)
+Inv-loop q reciprocal row turned keys₀ k₀ keys k = (k ≤ length row) × (keys ≡ sums q row turned (length keys₀) k)
 
 abbrev μ-loop : tie.MeasureT-loop
-μ-loop q row turned keys₀ k₀ keys k = length row - k
+μ-loop q reciprocal row turned keys₀ k₀ keys k = length row - k
 
 -- the sums of the call after k products, for L positions
 abbrev sumsAfter : tie.Start Inv-loop μ-loop → ℕ → ℕ → List ℕ
@@ -46,9 +46,11 @@ add-product-requires c κs =
     let taken = c .before .loop-test .taken in
     let full : length (l .loop .keys) ≡ length (a .keys .now) = kept l ∙ same (l .before .before .before) in (
       omega (arith, taken),
-      s .pre .1 _ (omega (arith, taken)),
-      s .pre .2 ∙ ap (λ (n : ℕ). length (a .row .now) * n) (sym full),
-      λ j p h m. subst (λ (n : ℕ). at (a .turned .now) (j * n + p) < a .q) (sym full) (s .pre .3 j p h (omega (arith, full))),
+      s .pre .3 _ (omega (arith, taken)),
+      s .pre .1,
+      s .pre .2,
+      s .pre .4 ∙ ap (λ (n : ℕ). length (a .row .now) * n) (sym full),
+      λ j p h m. subst (λ (n : ℕ). at (a .turned .now) (j * n + p) < a .q) (sym full) (s .pre .5 j p h (omega (arith, full))),
       l .loop .inv .1 ∙ ap (λ (n : ℕ). sumsAfter s n k) (sym (kept l)),
     )
 

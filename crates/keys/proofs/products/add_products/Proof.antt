@@ -17,13 +17,13 @@ abbrev more : ℕ → ℕ → List ℕ → List ℕ → ℕ → ℕ
 more q a symbols sums p = (at sums p + a * at symbols p) % q
 
 abbrev Inv-loop : tie.InvT-loop
-Inv-loop q a symbols sums₀ w p₀ sums p = InPlace (more q a symbols sums₀) sums₀ sums p
+Inv-loop q reciprocal a symbols sums₀ w p₀ sums p = InPlace (more q a symbols sums₀) sums₀ sums p
 
 abbrev μ-loop : tie.MeasureT-loop
-μ-loop q a symbols sums₀ w p₀ sums p = length sums - p
+μ-loop q reciprocal a symbols sums₀ w p₀ sums p = length sums - p
 
-reciprocal-requires : tie.Need-reciprocal-requires Inv-loop μ-loop
-reciprocal-requires c κs = c .before .before .pre .0
+fraction-requires : tie.Need-fraction-requires Inv-loop μ-loop
+fraction-requires c κs = let s = c .before .before in (s .pre .0, s .pre .1, s .pre .2)
 
 loop-holds : tie.Need-loop-holds Inv-loop μ-loop
 loop-holds c = in-place-none _ _
@@ -40,19 +40,19 @@ still : (i : tie.In-loop Inv-loop μ-loop) → at (i .before .loop .sums) (i .be
 still i = i .before .loop .inv .rest (i .before .loop .p) (omega arith)
 
 shared-slice-read-product : tie.Need-shared-slice-read-product Inv-loop μ-loop
-shared-slice-read-product c = omega (arith, inside (c .before), start (c .before) .pre .1)
+shared-slice-read-product c = omega (arith, inside (c .before), start (c .before) .pre .3)
 
 product-requires : tie.Need-product-requires Inv-loop μ-loop
 product-requires c κs =
     let i = c .before in
-    let w = i .before .before .reciprocal .ensures in
-    (start i .pre .2 (i .before .loop .p) (inside i), w .0, w .1)
+    let w = i .before .before .fraction .ensures in
+    (start i .pre .4 (i .before .loop .p) (inside i), w .0, w .1)
 
 add-to-requires : tie.Need-add-to-requires Inv-loop μ-loop
 add-to-requires c κs =
     let i = c .before .before .before in
     let a = start i .args in (
-      omega (arith, still i, start i .pre .3 (i .before .loop .p) (inside i)),
+      omega (arith, still i, start i .pre .5 (i .before .loop .p) (inside i)),
       omega (arith, c .before .product .ensures, mod-lt (a .a * at (a .symbols .now) (i .before .loop .p)) {m = a .q} (omega (arith, start i .pre .0))),
     )
 
@@ -83,7 +83,7 @@ add-products-spec =
     (tie.spec
     Inv-loop
     μ-loop
-    reciprocal-requires
+    fraction-requires
     loop-holds
     (λ c. omega (arith, inside c))
     shared-slice-read-product

@@ -2,7 +2,7 @@ use Prim.Native.Nat.{_+_, _*_, _/_, _^_, _≤_, _<_}
 use mathlib.Core.Path.{_∙_}
 use native.Mathlib.Omega.{arith}
 use Rattle.keys.proofs.Halves.{product-fits}
-use Rattle.residues.proofs.Reciprocals.{reciprocal-over, reciprocal-under, less-times}
+use Rattle.residues.proofs.Reciprocals.{fraction-over, fraction-under, less-times}
 use Rattle.keys.proofs.products.large_product.Statement.{statement}
 use Rattle.keys.proofs.products.large_product.Tie as tie
 
@@ -16,7 +16,7 @@ off c = let a = c .args in product-fits (a .w * a .b / 4294967296) (a .q) (omega
 under : (c : tie.Start) → (let a = c .args in a .w * a .b / 4294967296 * a .q ≤ a .a * a .b + a .q)
 under c =
     let a = c .args in
-    reciprocal-under (a .q) 4294967296 (a .a) (a .b) (a .w) (c .pre .1) (c .pre .2) (omega arith)
+    fraction-under (a .q) 4294967296 (a .a) (a .b) (a .w) (c .pre .1) (c .pre .2) (omega arith)
 
 mul-times : tie.Need-mul-times
 mul-times c = omega (arith, wide c)
@@ -30,7 +30,7 @@ mul-difference-2 c = omega (arith, off c)
 difference-requires : tie.Need-difference-requires
 difference-requires c κs =
     let a = c .args in (
-      reciprocal-over (a .q) 4294967296 (a .a) (a .b) (a .w) (c .pre .1) (c .pre .2) (omega arith) (omega arith),
+      fraction-over (a .q) 4294967296 (a .a) (a .b) (a .w) (c .pre .1) (c .pre .2) (omega arith) (omega arith),
       under c,
     )
 
