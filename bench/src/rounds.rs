@@ -301,20 +301,35 @@ fn measure_moves(s: &mut Seeded, q: Symbol) -> bool {
     line(&format!("moving on, q {q}, ns"), 1e9, x, y)
 }
 
-/// Derivation less the share of asking whether the plan is accepted, which the proved function does first.
-fn measure_keys(s: &mut Seeded, q: Symbol) -> bool {
-    let plan = Plan::made(8, 2, 0, q, 2);
-    let source = drawn(s, plan.q, 64 * plan.rate);
-    let (mut a, mut b, mut c) = (vec![0; 1024], vec![0; 1024], vec![0; 1024]);
+/// Derivation less the share of asking whether the plan is accepted, which the proved function does first: of it, of plain keys with a remainder after each
+/// product, and of plain keys with one remainder a symbol, seconds a symbol.
+fn key_times(s: &mut Seeded, plan: &Plan, length: usize) -> [f64; 3] {
+    let source = drawn(s, plan.q, length * plan.rate);
+    let symbols = plan.clusters * plan.size * length;
+    let (mut a, mut b, mut c) = (vec![0; symbols], vec![0; symbols], vec![0; symbols]);
     let [both, asked, steps, once] = least(200, 25, [
-        &mut |n| (0..n).for_each(|_| assert_eq!(proved::derive(black_box(&plan), 64, black_box(&source), black_box(&mut a)), Code(0, 0, 0))),
-        &mut |n| (0..n).for_each(|_| assert_eq!(proved::ask(black_box(&plan)), Code(0, 0, 0))),
-        &mut |n| (0..n).for_each(|_| keys_by_steps(black_box(&plan), 64, black_box(&source), black_box(&mut b))),
-        &mut |n| (0..n).for_each(|_| keys_at_once(black_box(&plan), 64, black_box(&source), black_box(&mut c))),
+        &mut |n| (0..n).for_each(|_| assert_eq!(proved::derive(black_box(plan), length, black_box(&source), black_box(&mut a)), Code(0, 0, 0))),
+        &mut |n| (0..n).for_each(|_| assert_eq!(proved::ask(black_box(plan)), Code(0, 0, 0))),
+        &mut |n| (0..n).for_each(|_| keys_by_steps(black_box(plan), length, black_box(&source), black_box(&mut b))),
+        &mut |n| (0..n).for_each(|_| keys_at_once(black_box(plan), length, black_box(&source), black_box(&mut c))),
     ]);
     assert_eq!((&a, &a), (&b, &c));
-    let met = line(&format!("keys, q {q}, remainder each product, ns a symbol"), 1e9 / 1024.0, both - asked, steps);
-    line_within(KEYS_BAR, &format!("keys, q {q}, one remainder a symbol, ns a symbol"), 1e9 / 1024.0, both - asked, once) && met
+    [both - asked, steps, once].map(|time| time / symbols as f64)
+}
+
+fn measure_keys(s: &mut Seeded, q: Symbol) -> bool {
+    let [proved, steps, once] = key_times(s, &Plan::made(8, 2, 0, q, 2), 64);
+    let met = line(&format!("keys, q {q}, remainder each product, ns a symbol"), 1e9, proved, steps);
+    line_within(KEYS_BAR, &format!("keys, q {q}, one remainder a symbol, ns a symbol"), 1e9, proved, once) && met
+}
+
+/// Keys of other shapes against one remainder a symbol: of these there is no bar. A table that was made for a larger limit has more symbols a row.
+fn show_keys(s: &mut Seeded, q: Symbol) {
+    for (made_for, length) in [(0, 8), (0, 1), (13, 64), (13, 8), (13, 1)] {
+        let plan = Plan { limit: 0, ..Plan::made(8, 2, made_for, q, 2) };
+        let [proved, _, once] = key_times(s, &plan, length);
+        line(&format!("keys, q {q}, R {}, L {length}, no bar, ns a symbol", plan.rate), 1e9, proved, once);
+    }
 }
 
 /// Whether every bar is met. Small primes have no table of keys for so many users.
@@ -329,6 +344,7 @@ pub fn measure() -> bool {
     }
     for q in LARGE_PRIMES {
         met &= measure_keys(&mut s, q);
+        show_keys(&mut s, q);
     }
     println!("bar (ratio at most {BAR}, and of keys against one remainder a symbol {KEYS_BAR}): {}", if met { "met" } else { "NOT met" });
     met
