@@ -102,12 +102,17 @@ pub fn saved(case: usize) -> usize {
     )
 }
 
+// The length of a chain's save: the first may have any, so that its distance may take both bytes; there is room for that once.
+fn chain_length(y: usize, i: usize) -> usize {
+    over(i == 0, states::length(y), pick(y, 9, 4) % 4 + 1)
+}
+
 // As many saves as a case has, of its own states; and the used bytes after them.
 pub fn chain(out: &mut [u8; BUFFER], x: usize, many: usize) -> usize {
     let mut used: usize = 0;
     for i in 0..many {
         let y = seed(wrapping_add_usize(x, i));
-        let answer = checkpoints::save(states::sound(y, pick(y, 9, 4) % 4 + 1), out, used);
+        let answer = checkpoints::save(states::sound(y, chain_length(y, i)), out, used);
         used = answer.used;
     }
     used
@@ -128,7 +133,7 @@ pub fn chained(case: usize) -> usize {
         let verdict = back.answer;
         let round = back.round;
         let good = number_of(verdict) == 0
-            && states::alike(round, states::sound(y, pick(y, 9, 4) % 4 + 1));
+            && states::alike(round, states::sound(y, chain_length(y, i)));
         number = over(good, number, DIFFER);
     }
     let beyond = restore_from(&out, used, wrapping_add_usize(many, pick(x, 34, 3)));

@@ -24,5 +24,4 @@ chain-spec =
     (search needs)
     (search needs)
     (search needs)
-    (search needs)
     (search needs))

@@ -39,5 +39,4 @@ chained-spec =
     (search needs)
     (search needs)
     (search needs)
-    (search needs)
     (search needs))
