@@ -1,13 +1,10 @@
 -- Differences that may be negative, at a machine's width: what the two halves of one hold, and a sum less q.
 use Prim.Native.Nat.{ℕ, _+_, _-_, _*_, _/_, _%_, _^_, _≤_, _<_}
 use mathlib.Core.Path.{_≡_, sym, ap, ap₂, _∙_}
-use native.Mathlib.Nat.{mul-le-mul, mod-eq-of-lt, div-eq-of-lt, add-mul-mod-self-left}
+use native.Mathlib.Nat.{mod-eq-of-lt, div-eq-of-lt, add-mul-mod-self-left}
 use native.Mathlib.Omega.{arith}
 use native.Mathlib.Decide.{decLt}
 use lib.Bits.{bitAnd, and-mask, and-zero-r}
-
-pub product-fits : (x y : ℕ) → x < 2 ^ 32 → y < 2 ^ 32 → x * y < 2 ^ 64
-product-fits x y h l = omega (arith, mul-le-mul {n₁ = x} {m₁ = y} {n₂ = 2 ^ 32 - 1} {m₂ = 2 ^ 32 - 1} (omega arith) (omega arith))
 
 -- q and a negative number of the width that it outweighs
 back : (q d : ℕ) → d ≤ q → q < 2 ^ 32 → (2 ^ 32 - d + q) % 2 ^ 32 ≡ q - d

@@ -7,7 +7,8 @@ use borrow.Author.Needs.{needs}
 use borrow.Author.Tests.{eq-eqb}
 use Rattle.residues.specs.Field.{residue}
 use Rattle.residues.proofs.Crossings.{cross-less, cross-more, cross-rest, cross-same}
-use Rattle.arithmetic.proofs.Sizes.{product-fits, rem-small, rem-fits}
+use Rattle.primes.proofs.Sizes.{product-fits}
+use Rattle.arithmetic.proofs.Sizes.{rem-small, rem-fits}
 use Rattle.arithmetic.proofs.modular.cross_mod.Statement.{statement}
 use Rattle.arithmetic.proofs.modular.cross_mod.Tie as tie
 
@@ -22,13 +23,13 @@ returns-2 c =
     sym (cross-same (v .q) (v .y) (v .a) (v .x) (v .b) (rw (za, zb) (omega arith)))
 
 mul-more : tie.Need-mul-more
-mul-more c = record { fits = product-fits (search needs) (search needs) }
+mul-more c = record { fits = product-fits 32 (search needs) (search needs) }
 
 mul-less : tie.Need-mul-less
-mul-less c = record { fits = product-fits (search needs) (search needs) }
+mul-less c = record { fits = product-fits 32 (search needs) (search needs) }
 
 mul-most : tie.Need-mul-most
-mul-most c = record { fits = product-fits (search needs) (search needs) }
+mul-most c = record { fits = product-fits 32 (search needs) (search needs) }
 
 sub-reduce : tie.Need-sub-reduce
 sub-reduce c = rem-fits _ _ (omega (arith, c .before .before .if1 .left))
@@ -47,7 +48,7 @@ returns-3 c =
 add-t : tie.Need-add-t
 add-t c =
     let a = c .before .before .before .before .args in
-    omega (arith, product-fits {a = a .q} {b = a .q} (omega arith) (omega arith), c .if4 .left, c .before .if3 .left)
+    omega (arith, product-fits 32 {a = a .q} {b = a .q} (omega arith) (omega arith), c .if4 .left, c .before .if3 .left)
 
 returns-4 : tie.Need-returns-4
 returns-4 c =

@@ -3,7 +3,7 @@ use Prim.Native.Nat.{ℕ, _+_, _*_, _/_, _%_, _^_, _≤_, _<_}
 use native.Mathlib.Nat.{mul-le-mul}
 use native.Mathlib.Omega.{arith}
 use Rattle.residues.proofs.Reciprocals.{parts-under, parts-over, fraction-fits}
-use Rattle.keys.proofs.Halves.{product-fits}
+use Rattle.primes.proofs.Sizes.{product-fits}
 use Rattle.keys.proofs.products.fraction.Statement.{statement}
 use Rattle.keys.proofs.products.fraction.Tie as tie
 
@@ -18,10 +18,10 @@ over : (s : tie.Start) → (let a = s .args in a .a * 4294967296 < parts s * a .
 over s = let a = s .args in parts-over (a .q) 4294967296 (a .reciprocal) (a .a) (s .pre .1) (s .pre .2) (s .pre .0) (omega arith)
 
 mul-parts : tie.Need-mul-parts
-mul-parts c = let a = c .args in omega (arith, product-fits (a .a) (a .reciprocal / 4294967296) (omega arith) (omega arith))
+mul-parts c = let a = c .args in omega (arith, product-fits 32 {a = a .a} {b = a .reciprocal / 4294967296} (omega arith) (omega arith))
 
 mul-parts-2 : tie.Need-mul-parts-2
-mul-parts-2 c = let a = c .args in omega (arith, product-fits (a .a) (a .reciprocal % 4294967296) (omega arith) (omega arith))
+mul-parts-2 c = let a = c .args in omega (arith, product-fits 32 {a = a .a} {b = a .reciprocal % 4294967296} (omega arith) (omega arith))
 
 add-parts : tie.Need-add-parts
 add-parts c =
@@ -29,7 +29,7 @@ add-parts c =
     omega (
       arith,
       mul-le-mul {n₁ = a .a} {m₁ = a .reciprocal / 4294967296} {n₂ = 4294967295} {m₂ = 4294967295} (omega arith) (omega arith),
-      product-fits (a .a) (a .reciprocal % 4294967296) (omega arith) (omega arith),
+      product-fits 32 {a = a .a} {b = a .reciprocal % 4294967296} (omega arith) (omega arith),
     )
 
 mul-rest-2 : tie.Need-mul-rest-2

@@ -1,17 +1,17 @@
 use Prim.Native.Nat.{_+_, _*_, _/_, _^_, _≤_, _<_}
 use mathlib.Core.Path.{_∙_}
 use native.Mathlib.Omega.{arith}
-use Rattle.keys.proofs.Halves.{product-fits}
+use Rattle.primes.proofs.Sizes.{product-fits}
 use Rattle.residues.proofs.Reciprocals.{fraction-over, fraction-under, less-times}
 use Rattle.keys.proofs.products.large_product.Statement.{statement}
 use Rattle.keys.proofs.products.large_product.Tie as tie
 
 -- w b and what comes off are within the machine's width
 wide : (c : tie.Start) → (let a = c .args in a .w * a .b < 2 ^ 64)
-wide c = let a = c .args in product-fits (a .w) (a .b) (omega arith) (omega arith)
+wide c = let a = c .args in product-fits 32 {a = a .w} {b = a .b} (omega arith) (omega arith)
 
 off : (c : tie.Start) → (let a = c .args in a .w * a .b / 4294967296 * a .q < 2 ^ 64)
-off c = let a = c .args in product-fits (a .w * a .b / 4294967296) (a .q) (omega (arith, wide c)) (omega arith)
+off c = let a = c .args in product-fits 32 {a = a .w * a .b / 4294967296} {b = a .q} (omega (arith, wide c)) (omega arith)
 
 under : (c : tie.Start) → (let a = c .args in a .w * a .b / 4294967296 * a .q ≤ a .a * a .b + a .q)
 under c =
@@ -22,7 +22,7 @@ mul-times : tie.Need-mul-times
 mul-times c = omega (arith, wide c)
 
 mul-difference : tie.Need-mul-difference
-mul-difference c = let a = c .args in omega (arith, product-fits (a .a) (a .b) (omega arith) (omega arith))
+mul-difference c = let a = c .args in omega (arith, product-fits 32 {a = a .a} {b = a .b} (omega arith) (omega arith))
 
 mul-difference-2 : tie.Need-mul-difference-2
 mul-difference-2 c = omega (arith, off c)
