@@ -4,6 +4,7 @@ use mathlib.Core.Path.{_≡_, sym, ap, ap₂, _∙_}
 use native.Mathlib.Nat.{mod-eq-of-lt, div-eq-of-lt, add-mul-mod-self-left}
 use native.Mathlib.Omega.{arith}
 use native.Mathlib.Decide.{decLt}
+use Rattle.residues.proofs.SymbolLaws.{past-once}
 use lib.Bits.{bitAnd, and-mask, and-zero-r}
 
 -- q and a negative number of the width that it outweighs
@@ -23,11 +24,8 @@ module _ (q over under z : ℕ) (short : q < 2 ^ 32) (fits : z < 2 ^ 64) (big : 
       let hi : z / 2 ^ 32 ≡ 0 = div-eq-of-lt (omega arith) in
       ap₂ (λ (x y : ℕ). (x + bitAnd q y) % 2 ^ 32) lo hi
       ∙ ap (λ (y : ℕ). (z + y) % 2 ^ 32) (and-zero-r q)
-      ∙ mod-eq-of-lt {n = z + 0} (omega arith)
-      ∙ (let s : z + 0 ≡ z = omega arith in s)
-      ∙ sym (mod-eq-of-lt {n = z} {m = q} (omega arith))
-      ∙ sym (add-mul-mod-self-left z q 1)
-      ∙ ap (λ (n : ℕ). n % q) (let s : z + q * 1 ≡ over + q - under = omega arith in s)
+      ∙ (let s : (z + 0) % 2 ^ 32 ≡ over + q - under - q = omega arith in s)
+      ∙ sym (past-once q (over + q - under) (omega arith) (omega arith))
 
   raised-below : over < under → (z % 2 ^ 32 + bitAnd q (z / 2 ^ 32)) % 2 ^ 32 ≡ (over + q - under) % q
   raised-below h =
@@ -54,8 +52,4 @@ module _ (q sum more z : ℕ) (short : q < 2 ^ 32) (fits : z < 2 ^ 32) (h : sum 
   sum-again k = (let e : (z + q) % 2 ^ 32 ≡ sum + more = omega arith in e) ∙ sym (mod-eq-of-lt (omega arith))
 
   pub sum-past : q - more ≤ sum → (z + 0) % 2 ^ 32 ≡ (sum + more) % q
-  sum-past k =
-      (let e : (z + 0) % 2 ^ 32 ≡ sum + more - q = omega arith in e)
-      ∙ sym (mod-eq-of-lt {n = sum + more - q} {m = q} (omega arith))
-      ∙ sym (add-mul-mod-self-left (sum + more - q) q 1)
-      ∙ ap (λ (n : ℕ). n % q) (let s : sum + more - q + q * 1 ≡ sum + more = omega arith in s)
+  sum-past k = (let e : (z + 0) % 2 ^ 32 ≡ sum + more - q = omega arith in e) ∙ sym (past-once q (sum + more) (omega arith) (omega arith))

@@ -10,7 +10,7 @@ ghost use Rattle.plans.specs.Plans.{usersOf, inBounds};
 ghost use Rattle.keys.specs.Keys.{keysOf, blockChecks, keyCode, keysAfter, unvettedCode, unvettedAfter};
 use crate::columns::turn;
 use crate::products::add_products;
-use crate::products::reciprocal;
+use crate::products::reciprocal_of;
 use crate::verdict::verdict_on;
 use arithmetic::Symbol;
 use arithmetic::Wide;
@@ -93,14 +93,14 @@ fn users_keys(
     let q = plan.q;
     let users = plan.clusters * plan.size;
     let rate = plan.rate;
-    let once = reciprocal(q);
+    let reciprocal = reciprocal_of(q);
     let mut i = 0;
     while i < users {
         let b = i * rate;
         let e = b + rate;
         let from = i * positions;
         let to = from + positions;
-        user_keys(q, once, &table[b..e], turned, &mut keys[from..to]);
+        user_keys(q, reciprocal, &table[b..e], turned, &mut keys[from..to]);
         i += 1;
     }
 }

@@ -18,15 +18,14 @@ const WIDEST: Wide = 18446744073709551615;
 const SMALL: Symbol = 65536;
 
 // How often q goes into the largest number.
-pub(crate) fn reciprocal(q: Symbol) -> Wide
+pub(crate) fn reciprocal_of(q: Symbol) -> Wide
     requires { ⌜ 0 < q ⌝ }
     ensures { λ r. ⌜ (r * q < 18446744073709551616) × (18446744073709551616 ≤ r * q + q) ⌝ }
 {
     WIDEST / q as Wide
 }
 
-// What a is of q as a part of the width, rounded up, and one more where it is whole: by a multiplication with each half of the reciprocal, which gives at most
-// two parts too few.
+// What a is of q as a part of the width, rounded down, and one more: by a multiplication with each half of the reciprocal, whose sum is at most two too few.
 fn fraction(q: Symbol, reciprocal: Wide, a: Symbol) -> Symbol
     requires { ⌜ (a < q) × (reciprocal * q < 18446744073709551616) × (18446744073709551616 ≤ reciprocal * q + q) ⌝ }
     ensures { λ r. ⌜ (a * 4294967296 ≤ r * q) × (r * q ≤ a * 4294967296 + q) ⌝ }
@@ -82,7 +81,7 @@ fn product(q: Symbol, a: Symbol, w: Symbol, b: Symbol) -> Symbol
     }
 }
 
-// One product more on a sum. Less q it is below 0, and gets its q again, just where the sum is less than what the product leaves of q.
+// One product more on a sum. The new sum less q is below 0, and gets its q again, just where the old one is less than what the product leaves of q.
 fn add_to(q: Symbol, sum: Symbol, more: Symbol) -> Symbol
     requires { ⌜ (sum < q) × (more < q) ⌝ }
     ensures { λ r. ⌜ r ≡ (sum + more) % q ⌝ }

@@ -1,5 +1,6 @@
--- Products modulo q without a division by q. Of a number a the fraction w is what a is of q as a part of a width M, rounded up, or one more. With it the
--- product of a with any b modulo q takes multiplications, and divisions by M alone; and it comes itself of a reciprocal of q that serves every a.
+-- Products modulo q without a division by q. Of a number a the fraction w is what a is of q as a part of a width M, rounded up, or one more where that is
+-- whole. With it the product of a with any b modulo q takes multiplications, and divisions by M alone; and it comes itself of a reciprocal of q that serves
+-- every a.
 use Prim.Native.Nat.{ℕ, _+_, _-_, _*_, _/_, _%_, _≤_, _<_}
 use mathlib.Core.Path.{_≡_, sym, ap, _∙_}
 use native.Mathlib.Nat.{mul-le-mul, le-of-mul-le-mul-right, lt-of-mul-lt-mul-right, mod-lt, mod-eq-of-lt, mul-add-mod-self-right}
@@ -12,7 +13,7 @@ module _ (q M m a : ℕ) (most : m * q < M * M) (near : M * M ≤ m * q + q) (h 
   abbrev pub parts : ℕ
   parts = a * (m / M) + a * (m % M) / M
 
-  -- as a m has whole widths
+  -- the whole part of a m by the width
   within : (parts * M ≤ a * m) × (a * m < parts * M + M)
   within =
       let x : ℕ = a * (m % M) in

@@ -12,11 +12,11 @@ use Rattle.keys.proofs.derive.users_keys.Statement.{statement}
 use Rattle.keys.proofs.derive.users_keys.Tie as tie
 
 abbrev Inv-loop : tie.InvT-loop
-Inv-loop table positions turned keys₀ q users rate once i₀ keys i =
+Inv-loop table positions turned keys₀ q users rate reciprocal i₀ keys i =
     (i ≤ users) × Front keys₀ (keyRows q users rate positions table (turnedSymbols positions turned)) keys (i * positions)
 
 abbrev μ-loop : tie.MeasureT-loop
-μ-loop table positions turned keys₀ q users rate once i₀ keys i = users - i
+μ-loop table positions turned keys₀ q users rate reciprocal i₀ keys i = users - i
 
 mul-users : tie.Need-mul-users Inv-loop μ-loop
 mul-users c = omega (arith, c .before .before .before .before .pre .1)
@@ -89,7 +89,7 @@ user-keys-requires : tie.Need-user-keys-requires Inv-loop μ-loop
 user-keys-requires c κs =
     let s = c .before .before .before .loop in
     let S = start (c .before .before) in
-    let R = c .before .before .before .before .reciprocal .ensures in
+    let R = c .before .before .before .before .reciprocal-of .ensures in
     let a = S .args in
     let b : ℕ = s .i * a .positions in
     let r : ℕ = s .i * a .plan .rate in

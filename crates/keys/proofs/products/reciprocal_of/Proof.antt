@@ -1,8 +1,8 @@
 use borrow.Author.Needs.{needs}
 use native.Mathlib.Nat.{div-mul-le-self, lt-div-mul-add}
 use native.Mathlib.Omega.{arith}
-use Rattle.keys.proofs.products.reciprocal.Statement.{statement}
-use Rattle.keys.proofs.products.reciprocal.Tie as tie
+use Rattle.keys.proofs.products.reciprocal_of.Statement.{statement}
+use Rattle.keys.proofs.products.reciprocal_of.Tie as tie
 
 returns : tie.Need-returns
 returns c =
@@ -11,5 +11,5 @@ returns c =
       omega (arith, lt-div-mul-add {a = 18446744073709551615} {b = q} (c .pre)),
     )
 
-pub reciprocal-spec : {M : Type 1} → statement M
-reciprocal-spec = tie.close (tie.spec (search needs) returns)
+pub reciprocal-of-spec : {M : Type 1} → statement M
+reciprocal-of-spec = tie.close (tie.spec (search needs) returns)
