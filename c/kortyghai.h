@@ -45,7 +45,8 @@
  * kortyghai_show_totals, kortyghai_derive_keys and the counting of frames, no jump, no division and no address depends on a
  * reading, a key, a source symbol or a sum that is accepted; a block that is refused by 15 shows by the time where its first
  * wrong reading stands. This was seen in the machine code of one compiler and is not proved: docs/MACHINE-CODE.md says what
- * was looked at. All other calls are not constant-time.
+ * was looked at. All other calls are not constant-time, among them kortyghai_network_upload, which is given a reading and
+ * a key.
  */
 #ifndef KORTYGHAI_H
 #define KORTYGHAI_H
