@@ -5,7 +5,7 @@ use arithmetic::Symbol;
 use std::num::wrapping_sub_u32;
 
 // What the functions are given: a modulus, three numbers that may be symbols, an exponent, and what a slice is drawn from.
-#[derive(Drop)]
+#[derive(Clone, Copy)]
 pub struct Case {
     pub q: Symbol,
     pub a: Symbol,
@@ -15,7 +15,7 @@ pub struct Case {
     pub seed: u64,
 }
 
-#[derive(Drop)]
+#[derive(Clone, Copy)]
 pub enum Group {
     BelowSixty,
     Drawn,

@@ -7,7 +7,7 @@ use crate::slices::{Place, place_agrees};
 use crate::tally::{Tally, counted, none};
 pub use primes::is_prime;
 
-#[derive(Drop)]
+#[derive(Clone, Copy)]
 pub enum Subject {
     IsPrime,
     AllBelow(Place),

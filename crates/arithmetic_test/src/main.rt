@@ -1,4 +1,6 @@
 // Compares every public function of arithmetic and refusals with a second implementation, and writes for each how many results agree.
+#![tactic(auto)]
+
 mod cases;
 mod catalogue;
 mod compare;
@@ -14,32 +16,36 @@ mod tally;
 
 use cases::{DRAWN, Group, PAIRS};
 use divisors::Divisors;
-use libc::STDOUT_FILENO;
-use tally::{Tally, joined, none, write_tally};
+use std::io;
+use tally::{Tally, joined, none, print_tally};
 
-fn compared(divisors: &Divisors) -> Tally {
-    let mut t = report::tests(none(), divisors);
-    t = report::failing_tests(t, divisors);
-    t = report::catalogue(t, divisors);
-    t = report::sums(t, divisors);
-    report::products(t, divisors)
+fn compared(rt: &impl Print, divisors: &Divisors) -> io::Result<Tally> {
+    let mut t = report::tests(rt, none(), divisors)?;
+    t = report::failing_tests(rt, t, divisors)?;
+    t = report::catalogue(rt, t, divisors)?;
+    t = report::sums(rt, t, divisors)?;
+    report::products(rt, t, divisors)
 }
 
-fn named_cases() -> Tally {
+fn named_cases(rt: &impl Print) -> io::Result<Tally> {
     let mut t = named::acceptance(named::powers(named::moduli()));
     t = named::wide_symbols(named::wide_moduli(t));
-    io::write_all(STDOUT_FILENO, b"named cases");
-    write_tally(t, b" agree\n");
-    t
+    print_tally(rt, "named cases", t, "agree")?;
+    Ok(t)
 }
 
-fn main() {
-    let mut divisors = io::large_buffer();
+fn main(rt: HostRuntime) -> io::Result<()> {
+    let mut divisors = [0u8; 65536];
     divisors::count_all(&mut divisors);
-    report::inputs(&divisors, b"pairs, q below 60", Group::BelowSixty, PAIRS);
-    report::inputs(&divisors, b"pairs, drawn", Group::Drawn, DRAWN);
-    report::moduli(&divisors);
-    let total = joined(compared(&divisors), named_cases());
-    io::write_all(STDOUT_FILENO, b"total");
-    write_tally(total, b" agree\n");
+    report::inputs(
+        &rt,
+        &divisors,
+        "pairs, q below 60",
+        Group::BelowSixty,
+        PAIRS,
+    )?;
+    report::inputs(&rt, &divisors, "pairs, drawn", Group::Drawn, DRAWN)?;
+    report::moduli(&rt, &divisors)?;
+    let total = joined(compared(&rt, &divisors)?, named_cases(&rt)?);
+    print_tally(&rt, "total", total, "agree")
 }

@@ -8,7 +8,7 @@ use crate::divisors::{Divisors, has_two};
 use crate::numbers::{LARGEST, wide};
 use arithmetic::{Answer, Symbol};
 
-#[derive(Drop)]
+#[derive(Clone, Copy)]
 pub enum Operation {
     Sum,
     Difference,

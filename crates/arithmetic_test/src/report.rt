@@ -4,156 +4,183 @@ use crate::compare::{Subject, compare};
 use crate::divisors::Divisors;
 use crate::operations::Operation;
 use crate::slices::Place;
-use crate::tally::{Tally, joined, write_tally};
-use libc::STDOUT_FILENO;
+use crate::tally::{Tally, joined, print_tally};
+use std::io;
 
 // How many inputs of two numbers are to be refused.
-pub fn inputs(divisors: &Divisors, name: &[u8], group: Group, cases: u64) {
-    io::write_all(STDOUT_FILENO, name);
-    write_tally(
-        compare(divisors, Subject::Refused(2), group, cases),
-        b" refused 2\n",
-    );
-    io::write_all(STDOUT_FILENO, name);
-    write_tally(
-        compare(divisors, Subject::Refused(3), group, cases),
-        b" refused 3\n",
-    );
+pub fn inputs(
+    rt: &impl Print,
+    divisors: &Divisors,
+    name: &str,
+    group: Group,
+    cases: u64,
+) -> io::Result<()> {
+    let not_prime = compare(divisors, Subject::Refused(2), group, cases);
+    print_tally(rt, name, not_prime, "refused 2")?;
+    let no_symbols = compare(divisors, Subject::Refused(3), group, cases);
+    print_tally(rt, name, no_symbols, "refused 3")
 }
 
 // How many of the tests' moduli are no primes.
-pub fn moduli(divisors: &Divisors) {
-    io::write_all(STDOUT_FILENO, b"moduli");
-    write_tally(
-        compare(divisors, Subject::Refused(2), Group::Moduli, MODULI),
-        b" refused 2\n",
-    );
+pub fn moduli(rt: &impl Print, divisors: &Divisors) -> io::Result<()> {
+    let not_prime = compare(divisors, Subject::Refused(2), Group::Moduli, MODULI);
+    print_tally(rt, "moduli", not_prime, "refused 2")
 }
 
-fn line(divisors: &Divisors, name: &[u8], subject: Subject, group: Group, cases: u64) -> Tally {
+fn line(
+    rt: &impl Print,
+    divisors: &Divisors,
+    name: &str,
+    subject: Subject,
+    group: Group,
+    cases: u64,
+) -> io::Result<Tally> {
     let tally = compare(divisors, subject, group, cases);
-    io::write_all(STDOUT_FILENO, name);
-    write_tally(tally, b" agree\n");
-    tally
+    print_tally(rt, name, tally, "agree")?;
+    Ok(tally)
 }
 
-fn every_modulus(t: Tally, divisors: &Divisors, name: &[u8], subject: Subject) -> Tally {
-    joined(t, line(divisors, name, subject, Group::Moduli, MODULI))
+fn every_modulus(
+    rt: &impl Print,
+    t: Tally,
+    divisors: &Divisors,
+    name: &str,
+    subject: Subject,
+) -> io::Result<Tally> {
+    let s = line(rt, divisors, name, subject, Group::Moduli, MODULI)?;
+    Ok(joined(t, s))
 }
 
 // The test of primes, and that of symbols where it holds.
-pub fn tests(t: Tally, divisors: &Divisors) -> Tally {
-    let mut s = every_modulus(t, divisors, b"is_prime", Subject::IsPrime);
+pub fn tests(rt: &impl Print, t: Tally, divisors: &Divisors) -> io::Result<Tally> {
+    let (empty, nowhere) = (Place::Empty, Place::Nowhere);
+    let mut s = every_modulus(rt, t, divisors, "is_prime", Subject::IsPrime)?;
     s = every_modulus(
+        rt,
         s,
         divisors,
-        b"all_below, empty",
-        Subject::AllBelow(Place::Empty),
-    );
+        "all_below, empty",
+        Subject::AllBelow(empty),
+    )?;
     every_modulus(
+        rt,
         s,
         divisors,
-        b"all_below, all are",
-        Subject::AllBelow(Place::Nowhere),
+        "all_below, all are",
+        Subject::AllBelow(nowhere),
     )
 }
 
 // The test of symbols where one number is not below q.
-pub fn failing_tests(t: Tally, divisors: &Divisors) -> Tally {
+pub fn failing_tests(rt: &impl Print, t: Tally, divisors: &Divisors) -> io::Result<Tally> {
+    let (first, middle, last) = (Place::First, Place::Middle, Place::Last);
     let mut s = every_modulus(
+        rt,
         t,
         divisors,
-        b"all_below, first not",
-        Subject::AllBelow(Place::First),
-    );
+        "all_below, first not",
+        Subject::AllBelow(first),
+    )?;
     s = every_modulus(
+        rt,
         s,
         divisors,
-        b"all_below, middle not",
-        Subject::AllBelow(Place::Middle),
-    );
+        "all_below, middle not",
+        Subject::AllBelow(middle),
+    )?;
     every_modulus(
+        rt,
         s,
         divisors,
-        b"all_below, last not",
-        Subject::AllBelow(Place::Last),
+        "all_below, last not",
+        Subject::AllBelow(last),
     )
 }
 
-pub fn catalogue(t: Tally, divisors: &Divisors) -> Tally {
-    let codes = line(
-        divisors,
-        b"code_of",
-        Subject::CodeOf,
-        Group::EveryRefusal,
-        CODES,
-    );
+pub fn catalogue(rt: &impl Print, t: Tally, divisors: &Divisors) -> io::Result<Tally> {
+    let group = Group::EveryRefusal;
+    let codes = line(rt, divisors, "code_of", Subject::CodeOf, group, CODES)?;
     let verdicts = line(
+        rt,
         divisors,
-        b"verdict_code",
+        "verdict_code",
         Subject::VerdictCode,
-        Group::EveryRefusal,
+        group,
         CODES,
-    );
-    joined(t, joined(codes, verdicts))
+    )?;
+    Ok(joined(t, joined(codes, verdicts)))
 }
 
 // All small inputs, and drawn ones.
 fn two_lines(
+    rt: &impl Print,
     t: Tally,
     divisors: &Divisors,
-    name: &[u8],
+    name: &str,
     operation: Operation,
     small: u64,
-) -> Tally {
-    io::write_all(STDOUT_FILENO, name);
+) -> io::Result<Tally> {
+    let subject = Subject::Operation(operation);
+    print!(rt; "{name}")?;
     let below_sixty = line(
+        rt,
         divisors,
-        b", q below 60",
-        Subject::Operation(operation),
+        ", q below 60",
+        subject,
         Group::BelowSixty,
         small,
-    );
-    io::write_all(STDOUT_FILENO, name);
-    let drawn = line(
-        divisors,
-        b", drawn",
-        Subject::Operation(operation),
-        Group::Drawn,
-        DRAWN,
-    );
-    joined(t, joined(below_sixty, drawn))
+    )?;
+    print!(rt; "{name}")?;
+    let drawn = line(rt, divisors, ", drawn", subject, Group::Drawn, DRAWN)?;
+    Ok(joined(t, joined(below_sixty, drawn)))
 }
 
-pub fn sums(t: Tally, divisors: &Divisors) -> Tally {
-    let mut s = two_lines(t, divisors, b"sum, add_mod", Operation::Sum, PAIRS);
+pub fn sums(rt: &impl Print, t: Tally, divisors: &Divisors) -> io::Result<Tally> {
+    let mut s = two_lines(rt, t, divisors, "sum, add_mod", Operation::Sum, PAIRS)?;
     s = two_lines(
+        rt,
         s,
         divisors,
-        b"difference, sub_mod",
+        "difference, sub_mod",
         Operation::Difference,
         PAIRS,
-    );
-    s = two_lines(s, divisors, b"add_symbols", Operation::SymbolSum, PAIRS);
+    )?;
+    s = two_lines(rt, s, divisors, "add_symbols", Operation::SymbolSum, PAIRS)?;
     s = two_lines(
+        rt,
         s,
         divisors,
-        b"sub_symbols",
+        "sub_symbols",
         Operation::SymbolDifference,
         PAIRS,
-    );
-    two_lines(s, divisors, b"opposite_mod", Operation::Opposite, SINGLES)
-}
-
-pub fn products(t: Tally, divisors: &Divisors) -> Tally {
-    let mut s = two_lines(t, divisors, b"product, mul_mod", Operation::Product, PAIRS);
-    s = two_lines(s, divisors, b"mul_add_mod", Operation::MulAdd, TRIPLES);
-    s = two_lines(s, divisors, b"cross_mod", Operation::Cross, TRIPLES);
-    s = two_lines(s, divisors, b"power, power_mod", Operation::Power, PAIRS);
+    )?;
     two_lines(
+        rt,
         s,
         divisors,
-        b"inverse, inverse_mod",
+        "opposite_mod",
+        Operation::Opposite,
+        SINGLES,
+    )
+}
+
+pub fn products(rt: &impl Print, t: Tally, divisors: &Divisors) -> io::Result<Tally> {
+    let mut s = two_lines(
+        rt,
+        t,
+        divisors,
+        "product, mul_mod",
+        Operation::Product,
+        PAIRS,
+    )?;
+    s = two_lines(rt, s, divisors, "mul_add_mod", Operation::MulAdd, TRIPLES)?;
+    s = two_lines(rt, s, divisors, "cross_mod", Operation::Cross, TRIPLES)?;
+    s = two_lines(rt, s, divisors, "power, power_mod", Operation::Power, PAIRS)?;
+    two_lines(
+        rt,
+        s,
+        divisors,
+        "inverse, inverse_mod",
         Operation::Inverse,
         SINGLES,
     )

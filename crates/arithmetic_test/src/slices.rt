@@ -13,7 +13,7 @@ const HALF: u64 = 8;
 
 type Symbols = [Symbol; LENGTH];
 
-#[derive(Drop)]
+#[derive(Clone, Copy)]
 pub enum Place {
     Empty,
     Nowhere,

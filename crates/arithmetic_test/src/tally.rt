@@ -1,8 +1,8 @@
 // How many comparisons were made, and how many of them agree.
-use libc::STDOUT_FILENO;
+use std::io;
 use std::num::wrapping_add_u64;
 
-#[derive(Drop)]
+#[derive(Clone, Copy)]
 pub struct Tally {
     pub cases: u64,
     pub same: u64,
@@ -33,11 +33,7 @@ pub fn joined(a: Tally, b: Tally) -> Tally {
     }
 }
 
-// The two numbers, and what is true of the first.
-pub fn write_tally(tally: Tally, end: &[u8]) {
-    io::write_all(STDOUT_FILENO, b": ");
-    io::print_decimal(STDOUT_FILENO, tally.same);
-    io::write_all(STDOUT_FILENO, b" of ");
-    io::print_decimal(STDOUT_FILENO, tally.cases);
-    io::write_all(STDOUT_FILENO, end);
+// A line's name, the two numbers, and what is true of the first.
+pub fn print_tally(rt: &impl Print, name: &str, tally: Tally, end: &str) -> io::Result<()> {
+    println!(rt; "{name}: {} of {} {end}", tally.same, tally.cases)
 }

@@ -1,4 +1,6 @@
 // What the entries for other languages share: codes and plans as numbers.
+#![tactic(auto)]
+
 ghost use Rattle.std.specs.Prelude.{◌≡◌};
 ghost use Rattle.refusals.specs.Codes.{verdict_code};
 ghost use Rattle.boundary.specs.Packed.{packed};

@@ -1,5 +1,5 @@
 -- Saves one after the other: which one each step back finds.
-use Prim.Native.Nat.{ℕ, zero, suc, ◌+◌, ◌-◌, ◌≤◌, ◌<◌}
+use Prim.Native.Nat.{ℕ, zero, suc, ◌+◌, ◌-◌, ◌≤◌}
 use mathlib.Core.Path.{◌≡◌, refl, sym, ap, ap₂, ◌∙◌, subst}
 use mathlib.Core.Bool.{Bool, true, false, not, ◌||◌}
 use mathlib.Core.List.{List, [], ◌∷◌, ◌++◌, append_assoc, append-nil}
@@ -17,7 +17,7 @@ use Rattle.refusals.proofs.Orders.{rest-decides, number-accepts}
 use Rattle.plans.specs.Plans.{counts_fit, length_fits}
 use Rattle.rounds.specs.declared.RelayRound.{RelayRound}
 use Rattle.rounds.specs.Relays.{relay_checks}
-use Rattle.checkpoints.specs.Checkpoints.{save_size, save_of, save_checks, save_code, distance_at, end_back, bad_way, last_byte, round_at, round_read}
+use Rattle.checkpoints.specs.Checkpoints.{save_size, save_of, save_checks, save_code, distance_at, end_back, bad_way, last_byte, round_read}
 use Rattle.checkpoints.specs.Checkpoints.{restore_code, restored}
 use Rattle.checkpoints.specs.Stores.{Store, used_bytes, store_after, stored, NoneRefused, RowsOf64}
 use Rattle.checkpoints.proofs.StateLaws.{passed, savable, state-first}

@@ -2,12 +2,12 @@
 use Prim.Native.Nat.{ℕ}
 use mathlib.Core.Path.{◌≡◌, refl, sym, ap, ◌∙◌}
 use mathlib.Core.List.{List}
-use lib.ListN.{length, take, drop}
+use lib.ListN.{take, drop}
 use Rattle.refusals.specs.Codes.{accepted}
 use Rattle.refusals.proofs.CodeLaws.{accepted-takes}
 use Rattle.numerals.proofs.Bytes.{AreBytes}
 use Rattle.checkpoints.specs.Checkpoints.{save_of, distance_at, start_at, last_byte, round_read, restore_code, restored}
-use Rattle.checkpoints.proofs.RestoreChecks.{Readable, readable, found}
+use Rattle.checkpoints.proofs.RestoreChecks.{readable, found}
 use Rattle.checkpoints.proofs.SaveLaws.{read-save}
 
 -- what is restored, saved again, is the bytes that it was restored from

@@ -1,24 +1,20 @@
 -- There and back: the save of a round, wherever it stands, is read as that round; and a save that is read is the save of its round.
 use Prim.Native.Nat.{ℕ, ◌+◌, ◌-◌, ◌*◌, ◌/◌, ◌%◌, ◌≤◌, ◌<◌}
 use mathlib.Core.Path.{◌≡◌, refl, sym, ap, ap₂, ◌∙◌}
-use mathlib.Core.Bool.{Bool, true, false}
 use mathlib.Core.List.{List, [], ◌∷◌, ◌++◌, append_assoc}
 use native.Mathlib.Omega.{arith}
-use lib.ListN.{length, take, drop, length-append, length-take}
-use lib.Seq.{take_at, drop_at, length-take-le}
+use lib.ListN.{length, take, drop, length-append}
+use lib.Seq.{take_at, length-take-le}
 use Rattle.lists.specs.Lists.{at, zeros}
-use Rattle.refusals.specs.Codes.{accepted, first_of, if_accepted}
-use Rattle.refusals.proofs.CodeLaws.{accepted-takes}
-use Rattle.plans.specs.Plans.{counts_fit, length_fits, max_length}
+use Rattle.plans.specs.Plans.{max_length}
 use Rattle.numerals.specs.Bytes.{bytes_of, bytes_of_all, number_at, numbers_at}
-use Rattle.numerals.proofs.Bytes.{AreBytes, length-all, length-numbers, numbers-at, numbers-of-bytes, drop-one, drop-two, bytes-of-number, bytes-of-numbers}
-use Rattle.rounds.specs.declared.Round.{Round}
+use Rattle.numerals.proofs.Bytes.{AreBytes, length-all, length-numbers, numbers-at, numbers-of-bytes, bytes-of-numbers}
 use Rattle.rounds.specs.declared.RelayRound.{RelayRound}
-use Rattle.rounds.specs.Relays.{relay_round, held, relay_checks}
-use Rattle.checkpoints.specs.Checkpoints.{save_size, save_of, distance_at, bad_trailer_at, start_at, length_at, sums_at, round_at}
-use Rattle.checkpoints.proofs.StateLaws.{Passed, passed, few-length, sums-said}
+use Rattle.rounds.specs.Relays.{relay_round, held}
+use Rattle.checkpoints.specs.Checkpoints.{save_size, save_of, distance_at, start_at, length_at, sums_at, round_at}
+use Rattle.checkpoints.proofs.StateLaws.{Passed, few-length, sums-said}
 use Rattle.checkpoints.proofs.Ways.{TrailerAt}
-use Rattle.checkpoints.proofs.SaveRows.{counts_of, words_of, rolls_of, sums_of, held_sums_of, trailer_of, head_of, tail_of, save-rows, length-save}
+use Rattle.checkpoints.proofs.SaveRows.{counts_of, words_of, rolls_of, sums_of, held_sums_of, trailer_of, save-rows, length-save}
 
 -- ---- a row of numbers where it stands
 

@@ -16,7 +16,7 @@ use Rattle.residues.specs.Primes.{is_prime, all_below}
 use Rattle.plans.specs.Plans.{counts_fit, length_fits, max_length}
 use Rattle.plans.proofs.PlanBounds.{Counts, counts-known, length-known}
 use Rattle.rounds.specs.declared.RelayRound.{RelayRound}
-use Rattle.rounds.specs.Rounds.{one_of, sums_fit}
+use Rattle.rounds.specs.Rounds.{sums_fit}
 use Rattle.rounds.specs.Relays.{relay_known, relay_checks}
 use Rattle.checkpoints.specs.Checkpoints.{save_size, save_checks, save_code}
 

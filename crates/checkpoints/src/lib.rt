@@ -1,4 +1,6 @@
 // Checkpoints: a relay's round saved after the used bytes of a buffer, and restored from the used bytes, so many saves back.
+#![tactic(auto)]
+
 ghost use Rattle.std.specs.Prelude.{◌≡◌};
 ghost use Rattle.refusals.specs.Codes.{verdict_code};
 ghost use Rattle.rounds.specs.Rounds.{no_round};
@@ -48,14 +50,14 @@ const FIRST_MARK: u8 = 0x4b;
 const LAST_MARK: u8 = 0x52;
 
 // The answer to a saving, and how many bytes of the buffer are used after it.
-#[derive(Drop)]
+#[derive(Clone, Copy)]
 pub struct Saved {
     pub answer: Verdict,
     pub used: usize,
 }
 
 // The answer to a restoring, and the round.
-#[derive(Drop)]
+#[derive(Clone, Copy)]
 pub struct Restored {
     pub answer: Verdict,
     pub round: RelayRound,

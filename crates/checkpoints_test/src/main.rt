@@ -1,15 +1,17 @@
 // Holds the library checkpoints to a second implementation, which says each byte of a save by its place and finds a save by a walk that stays at 0 once it is
 // lost. Writes how often each number was answered (0: nothing is refused) where the two agree, and how often they differ: in the number, the bytes, the
 // number of used bytes or the round. A case is made of its number alone, so that each can be looked at by itself.
+#![tactic(auto)]
+
 mod calls;
 mod replays;
 mod second;
 mod states;
 
-use libc::STDOUT_FILENO;
 use states::DIFFER;
+use std::io;
 use std::num::wrapping_add_usize;
-use testing::{clip, product};
+use testing::{clip, print_counts, product};
 
 // How many kinds of cases there are.
 const KINDS: usize = 6;
@@ -40,27 +42,18 @@ fn cases(kind: usize) -> usize {
     }
 }
 
-fn write_name(kind: usize) -> bool {
+fn name(kind: usize) -> &'static str {
     match kind {
-        0 => io::write_all(STDOUT_FILENO, b"saves: "),
-        1 => io::write_all(STDOUT_FILENO, b"one after the other: "),
-        2 => io::write_all(STDOUT_FILENO, b"damaged: "),
-        3 => io::write_all(STDOUT_FILENO, b"all repeated: "),
-        4 => io::write_all(STDOUT_FILENO, b"changes repeated: "),
-        _ => io::write_all(STDOUT_FILENO, b"one change left out: "),
+        0 => "saves",
+        1 => "one after the other",
+        2 => "damaged",
+        3 => "all repeated",
+        4 => "changes repeated",
+        _ => "one change left out",
     }
 }
 
-fn write_count(n: usize, number: usize) {
-    if n > 0 {
-        io::print_decimal(STDOUT_FILENO, n as u64);
-        io::write_all(STDOUT_FILENO, b" answered ");
-        io::print_decimal(STDOUT_FILENO, number as u64);
-        io::write_all(STDOUT_FILENO, b", ");
-    }
-}
-
-fn report(kind: usize) {
+fn report(rt: &impl Print, kind: usize) -> io::Result<()> {
     let many = cases(kind);
     let mut tally = [0usize; DIFFER + 1];
     for case in 0..many {
@@ -68,16 +61,13 @@ fn report(kind: usize) {
         let n = clip(outcome(kind, own), DIFFER);
         tally[n] = wrapping_add_usize(tally[n], 1);
     }
-    for number in 0..DIFFER {
-        write_count(tally[number], number);
-    }
-    io::print_decimal(STDOUT_FILENO, tally[DIFFER] as u64);
-    io::write_all(STDOUT_FILENO, b" differ\n");
+    print!(rt; "{}: ", name(kind))?;
+    print_counts(rt, "answered", &tally)
 }
 
-fn main() {
+fn main(rt: HostRuntime) -> io::Result<()> {
     for kind in 0..KINDS {
-        write_name(kind);
-        report(kind);
+        report(&rt, kind)?;
     }
+    Ok(())
 }

@@ -57,10 +57,10 @@ module _ (q : ℕ) (M : Machine) (blind : Blind q M) (number : ℕ → ℕ) (B B
   same-answers a b r [] = refl
   same-answers a b r (sends k s ∷ schedule) =
       let (c, n) = blind.heard a b r _ _ (alike k s) in
-      ap₂ ◌∷◌ c (same-answers _ _ n schedule)
+      ap₂ ◌∷◌ c (same-answers (M.next a (M.hears (frame s (number k) (B k s)))) (M.next b (M.hears (frame s (number k) (B' k s)))) n schedule)
   same-answers a b r (calls x ∷ schedule) =
       let (c, n) = blind.called a b r x in
-      ap₂ ◌∷◌ c (same-answers _ _ n schedule)
+      ap₂ ◌∷◌ c (same-answers (M.next a x) (M.next b x) n schedule)
 
   pub same-outlines : (schedule : List (Entry M.Call)) → outline_of M (transcript M number B schedule) ≡ outline_of M (transcript M number B' schedule)
   same-outlines schedule i = record { made = same-made schedule i; answers = same-answers M.start M.start blind.first schedule i }

@@ -1,6 +1,6 @@
 -- "any run of rounds, each with a key block of its own". The rounds of a run count from 0. A day's readings are given round by round: W 0, W 1, ..
 -- A run of source keys (document 01: key blocks) is written as one list, source key after source key: it is any list of `run_symbols` symbols.
-use Rattle.std.specs.Prelude.{ℕ, zero, suc, ◌+◌, ◌-◌, ◌*◌, ◌%◌, ◌≤◌, ◌<◌, ◌≡◌, cond, ◌&&◌, List, [], ltb, ℤ, take, drop}
+use Rattle.std.specs.Prelude.{ℕ, zero, suc, ◌+◌, ◌-◌, ◌*◌, ◌%◌, ◌≤◌, ◌<◌, cond, ◌&&◌, List, [], ltb, ℤ, take, drop}
 use Rattle.lists.specs.Lists.{at, tab}
 use Rattle.lists.specs.Sums.{sum_to}
 use Rattle.secrecy.specs.Model.{Pool, users, key, upload}

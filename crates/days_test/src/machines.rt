@@ -23,7 +23,7 @@ const UNTOUCHED: Symbol = 9;
 
 // Call c of the schedule: what it is, for which round, from which sender, and with which symbols where they are not the sender's own: nobody's frame, or one of
 // an unknown sender.
-#[derive(Drop)]
+#[derive(Clone, Copy)]
 struct Call {
     what: usize,
     k: usize,

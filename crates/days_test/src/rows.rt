@@ -8,7 +8,7 @@ use arithmetic::Symbol;
 use std::num::wrapping_add_usize;
 use testing::{at, clip, mul_add, over, power, product, put, wide};
 
-#[derive(Drop)]
+#[derive(Clone, Copy)]
 pub struct Seen {
     pub outcome: usize,
     pub transcripts: usize,

@@ -6,7 +6,7 @@ use std::num::{wrapping_add_usize, wrapping_sub_usize};
 use testing::{over, power, product, put, quotient, residue, seed, wide};
 
 // A pool and its two rounds; who watches (0: the server), with which coalition; and what a kind of case changes.
-#[derive(Drop)]
+#[derive(Clone, Copy)]
 pub struct Setup {
     pub plan: Plan,
     pub first: usize,

@@ -14,7 +14,7 @@ use Rattle.vetting.proofs.JointLaws.{joint-none, table-refuses, joint-iff, joint
 use Rattle.vetting.proofs.JointTheorems.{wrong-pair, wrong-count, only-wrong-pair, refused-alone, accepted-fits, accepted-vet, accepted-count}
 use Rattle.vetting.proofs.JointTheorems.{accepted-pair-quiet, accepted-pair-equal}
 use Rattle.vetting.proofs.JointTheorems.{joint-last, joint-count, two-relays}
-use Rattle.demands.specs.JointRelays.{Few, WithoutPair, AcceptedAlone, WrongPair, RefusedAlone, JointHides, RefusedIffJointLeaks, NamesLeast}
+use Rattle.demands.specs.JointRelays.{WithoutPair, AcceptedAlone, WrongPair, RefusedAlone, JointHides, RefusedIffJointLeaks, NamesLeast}
 use Rattle.demands.specs.JointRelays.{TableFirst, OnlyWrongPair, AcceptedIff, TwoRelaysSeeAll, TwoRelaysLeak}
 
 module _ (P : Plan) (K : List ℕ) where

@@ -1,1 +1,2 @@
 // Laws of integers and of their bits. There is no code here.
+#![tactic(auto)]

@@ -1,4 +1,6 @@
 // Keys: the table maker, and individual keys.
+#![tactic(auto)]
+
 mod columns;
 mod derive;
 mod maker;
@@ -12,7 +14,7 @@ pub use rates::rate_needed;
 use refusals::Refusal;
 
 // The rate that the maker will need.
-#[derive(Drop)]
+#[derive(Clone, Copy)]
 pub enum Needed {
     Rate(usize),
     Refused(Refusal),

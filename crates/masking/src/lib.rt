@@ -1,4 +1,6 @@
 // Uploads, and taking a key off. Nothing here branches on a reading or a key or divides one, once they are known to be symbols.
+#![tactic(auto)]
+
 ghost use Rattle.std.specs.Prelude.{◌≡◌, ◌<◌, T, length};
 ghost use Rattle.refusals.specs.Codes.{verdict_code};
 ghost use Rattle.residues.specs.Primes.{all_below};

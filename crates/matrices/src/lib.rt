@@ -1,4 +1,6 @@
 // Elimination and rank modulo a prime, on tables: matrices row after row in one slice, of at most 48 rows and columns.
+#![tactic(auto)]
+
 ghost use Rattle.std.specs.Prelude.{◌≡◌, ◌*◌, ◌≤◌, ◌<◌, cond, eqb, length};
 ghost use Rattle.refusals.specs.Codes.{first_of, verdict_code, outcome};
 ghost use Rattle.matrices.specs.Tables.{row_of, rows_of, pivot_of, crossed, cleared, each_row};
@@ -237,7 +239,7 @@ fn count_in_copy(q: Symbol, rows: usize, cols: usize, table: &[Symbol]) -> usize
 }
 
 // What the checked rank answers.
-#[derive(Drop)]
+#[derive(Clone, Copy)]
 pub enum Ranked {
     Rank(usize),
     Refused(Refusal),

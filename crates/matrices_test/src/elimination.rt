@@ -30,7 +30,7 @@ pub fn length(case: usize) -> usize {
 }
 
 // The row that is eliminated by, and the first column in which it is not 0: past the last where there is none.
-#[derive(Drop)]
+#[derive(Clone, Copy)]
 struct Pivot {
     row: usize,
     column: usize,

@@ -7,7 +7,7 @@ use std::num::{wrapping_add_usize, wrapping_sub_usize};
 use testing::{PRIMES, at, draw, narrow, prime, product, put, quotient, residue, seed, step};
 
 // A matrix to make: its shape, its rank, and the column of the first row's 1.
-#[derive(Drop)]
+#[derive(Clone, Copy)]
 struct KnownRank {
     shape: Shape,
     rank: usize,

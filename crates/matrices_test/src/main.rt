@@ -1,5 +1,7 @@
 // Holds the library matrices to a second implementation, written another way, and writes how many results agree.
 // A case is made of its number alone, so that each can be looked at by itself.
+#![tactic(auto)]
+
 mod copies;
 mod elimination;
 mod known_ranks;
@@ -11,22 +13,22 @@ mod tables;
 mod wrong_shapes;
 
 use arithmetic::Symbol;
-use libc::STDOUT_FILENO;
+use std::io;
 use std::num::wrapping_add_usize;
 
 // One number more than the largest table has.
 const LONGEST: usize = 2305;
 
-fn write_name(group: usize) -> bool {
+fn name(group: usize) -> &'static str {
     match group {
-        0 => io::write_all(STDOUT_FILENO, b"solutions: "),
-        1 => io::write_all(STDOUT_FILENO, b"known ranks: "),
-        2 => io::write_all(STDOUT_FILENO, b"reduced rows: "),
-        3 => io::write_all(STDOUT_FILENO, b"elimination: "),
-        4 => io::write_all(STDOUT_FILENO, b"wrong shapes: "),
-        5 => io::write_all(STDOUT_FILENO, b"refusals: "),
-        6 => io::write_all(STDOUT_FILENO, b"copies: "),
-        _ => io::write_all(STDOUT_FILENO, b"total: "),
+        0 => "solutions",
+        1 => "known ranks",
+        2 => "reduced rows",
+        3 => "elimination",
+        4 => "wrong shapes",
+        5 => "refusals",
+        6 => "copies",
+        _ => "total",
     }
 }
 
@@ -88,23 +90,19 @@ fn tally(group: usize, cases: usize) -> usize {
     n
 }
 
-fn write_line(group: usize, n: usize, cases: usize) {
-    write_name(group);
-    io::print_decimal(STDOUT_FILENO, n as u64);
-    io::write_all(STDOUT_FILENO, b" of ");
-    io::print_decimal(STDOUT_FILENO, cases as u64);
-    io::write_all(STDOUT_FILENO, b" agree\n");
+fn print_line(rt: &impl Print, group: usize, n: usize, cases: usize) -> io::Result<()> {
+    println!(rt; "{}: {n} of {cases} agree", name(group))
 }
 
-fn main() {
+fn main(rt: HostRuntime) -> io::Result<()> {
     let mut total: usize = 0;
     let mut all: usize = 0;
     for group in 0usize..7 {
         let m = cases(group);
         let n = tally(group, m);
-        write_line(group, n, m);
+        print_line(&rt, group, n, m)?;
         total = wrapping_add_usize(total, n);
         all = wrapping_add_usize(all, m);
     }
-    write_line(7, total, all);
+    print_line(&rt, 7, total, all)
 }

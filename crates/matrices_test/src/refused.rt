@@ -8,7 +8,7 @@ use testing::{draw, put, seed};
 // 8 shapes, 3 lengths, 14 moduli and 6 numbers.
 pub const CASES: usize = 2016;
 
-#[derive(Drop)]
+#[derive(Clone, Copy)]
 struct Choice {
     shape: usize,
     length: usize,

@@ -6,7 +6,7 @@ use refusals::Refusal;
 use std::num::wrapping_sub_usize;
 use testing::{at, draw, narrow, product, put, residue, step, wide16};
 
-#[derive(Drop)]
+#[derive(Clone, Copy)]
 pub struct Shape {
     pub q: usize,
     pub rows: usize,

@@ -1,4 +1,6 @@
 // Entries of cyclic networks for callers in other languages: numbers, slices and arrays alone, and the same promises as the functions that they call.
+#![tactic(auto)]
+
 ghost use Rattle.std.specs.Prelude.{◌≡◌};
 ghost use Rattle.refusals.specs.Codes.{first_of, if_accepted};
 ghost use Rattle.arithmetic.specs.Entries.{outcome_of};

@@ -12,7 +12,7 @@ pub const DIFFER: usize = 24;
 pub const TOTALS: usize = 5;
 
 // How long the parts are that are lent.
-#[derive(Drop)]
+#[derive(Clone, Copy)]
 pub struct Lengths {
     pub table: usize,
     pub weights: usize,

@@ -2,6 +2,8 @@
 // readings and source keys, and, of networks of every size, to an elimination of its own and to the readings' own totals. Writes how often each number was
 // answered (0: nothing is refused) where the two agree, and how often they differ: in the number, its details, or the buffer. A case is made of its number
 // alone.
+#![tactic(auto)]
+
 mod counting;
 mod decodes;
 mod drawn;
@@ -14,10 +16,10 @@ mod worlds;
 
 use decodes::{tiny_decoded, whole_decoded};
 use expected::DIFFER;
-use libc::STDOUT_FILENO;
 use sends::{summed, uploaded};
+use std::io;
 use std::num::wrapping_add_usize;
-use testing::clip;
+use testing::{clip, print_counts};
 use vets::vetted;
 
 // The last two are no kinds of their own: with a mistake in what is expected.
@@ -35,41 +37,24 @@ fn outcome(kind: usize, case: usize) -> usize {
     }
 }
 
-fn write_count(n: usize, number: usize) {
-    if n > 0 {
-        io::print_decimal(STDOUT_FILENO, n as u64);
-        io::write_all(STDOUT_FILENO, b" answered ");
-        io::print_decimal(STDOUT_FILENO, number as u64);
-        io::write_all(STDOUT_FILENO, b", ");
-    }
-}
-
-fn write_counts(tally: [usize; DIFFER + 1]) {
-    for number in 0..DIFFER {
-        write_count(tally[number], number);
-    }
-    io::print_decimal(STDOUT_FILENO, tally[DIFFER] as u64);
-    io::write_all(STDOUT_FILENO, b" differ\n");
-}
-
-fn report(name: &[u8], kind: usize, cases: usize) {
+fn report(rt: &impl Print, name: &str, kind: usize, cases: usize) -> io::Result<()> {
     let mut tally = [0usize; DIFFER + 1];
     for case in 0..cases {
         let n = clip(outcome(kind, case), DIFFER);
         tally[n] = wrapping_add_usize(tally[n], 1);
     }
-    io::write_all(STDOUT_FILENO, name);
-    write_counts(tally);
+    print!(rt; "{name}")?;
+    print_counts(rt, "answered", &tally)
 }
 
-fn main() {
-    report(b"tiny networks vetted:         ", 0, 4000);
-    report(b"the same with faults:         ", 1, 4000);
-    report(b"uploads:                      ", 2, 20000);
-    report(b"relay sums:                   ", 3, 8000);
-    report(b"tiny networks, every roll:    ", 4, 8000);
-    report(b"the same with faults:         ", 5, 8000);
-    report(b"networks of every size:       ", 6, 600);
-    report(b"vetted, a mistake expected:   ", 7, 200);
-    report(b"decoded, a mistake expected:  ", 8, 200);
+fn main(rt: HostRuntime) -> io::Result<()> {
+    report(&rt, "tiny networks vetted:         ", 0, 4000)?;
+    report(&rt, "the same with faults:         ", 1, 4000)?;
+    report(&rt, "uploads:                      ", 2, 20000)?;
+    report(&rt, "relay sums:                   ", 3, 8000)?;
+    report(&rt, "tiny networks, every roll:    ", 4, 8000)?;
+    report(&rt, "the same with faults:         ", 5, 8000)?;
+    report(&rt, "networks of every size:       ", 6, 600)?;
+    report(&rt, "vetted, a mistake expected:   ", 7, 200)?;
+    report(&rt, "decoded, a mistake expected:  ", 8, 200)
 }

@@ -4,17 +4,17 @@ use mathlib.Core.Path.{◌≡◌, refl, sym, ap, ap₂, ◌∙◌}
 use mathlib.Core.Bool.{Bool, true, false, cond, ◌&&◌}
 use mathlib.Core.List.{List, [], ◌∷◌, ◌++◌, map}
 use native.Mathlib.Decide.{dec_le}
-use native.Mathlib.Nat.{pow-suc, pow-succ', pow-le-pow_right, mod-lt, mod-eq_of_lt, mod-mod_of_dvd, dvd-mul_right, div-add-mod}
+use native.Mathlib.Nat.{pow-succ', pow-le-pow_right, mod-lt, mod-eq_of_lt, mod-mod_of_dvd, dvd-mul_right, div-add-mod}
 use native.Mathlib.Nat.{add-mul-div_left, add-mul-mod_self_left, le-div_iff_mul-le}
 use native.Mathlib.Omega.{arith}
 use lib.Dec.{T, leb, eqb, eqb→eq}
-use lib.ListN.{length, get_or, get_or-eq_default}
+use lib.ListN.{length}
 use borrow.Author.Tests.{leb-true, le-leb, lt-leb, eq-eqb}
 use Rattle.lists.specs.Lists.{at, zeros}
 use Rattle.lists.proofs.Searches.{T→true, true→T, not-T→false, false→not-T, T_and, and_T}
 use Rattle.lists.proofs.ListLaws.{el-zeros}
 use Rattle.numerals.specs.Bytes.{bytes_of, bytes_of_all, number_at, numbers_at, row_in_range, cut}
-use Rattle.numerals.proofs.Bytes.{low_byte, length-numbers}
+use Rattle.numerals.proofs.Bytes.{low_byte}
 
 -- ---- what so many bytes hold of a number
 

@@ -1,4 +1,6 @@
 // Numbers as bytes, low byte first, of four bytes at most: read and written one by one, and in rows.
+#![tactic(auto)]
+
 ghost use Rattle.std.specs.Prelude.{◌≡◌, cond, ◌&&◌, ◌++◌, map, ◌+◌, ◌-◌, ◌*◌, ◌≤◌, ◌<◌, leb, eqb, length};
 ghost use Rattle.lists.specs.Lists.{at, zeros};
 ghost use Rattle.numerals.specs.Bytes.{bytes_of, bytes_of_all, number_at, numbers_at, row_in_range, cut};

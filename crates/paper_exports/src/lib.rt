@@ -1,4 +1,6 @@
 // Entries of a pool on paper for callers in other languages: numbers, slices and arrays alone, and the same promises as the functions that they call.
+#![tactic(auto)]
+
 ghost use Rattle.std.specs.Prelude.{◌≡◌, ◌<◌};
 ghost use Rattle.refusals.specs.Codes.{if_accepted};
 ghost use Rattle.simulation.specs.Runs.{input_code};

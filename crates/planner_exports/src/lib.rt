@@ -1,4 +1,6 @@
 // Entries of a planner for callers in other languages: numbers, slices and arrays alone, and the same promises as the functions that they call.
+#![tactic(auto)]
+
 mod plans_and_tables;
 mod records_of_plans;
 

@@ -81,10 +81,10 @@ impl Plan {
     pub fn new(clusters: usize, size: usize, limit: usize, rate: usize, q: Symbol) -> Planned
         ensures code { planned_code result ≡ plan_code (plan clusters size limit rate q) }
         ensures plan { planned_plan result ≡ plan_made (plan clusters size limit rate q) }
-        ensures* clusters { do ⌜ ((← (⟦Plan::MAX_CLUSTERS⟧).entry) ≡ max_clusters) × ((← (⟦Plan::MAX_SIZE⟧).entry) ≡ max_size) ⌝ }
-        ensures* users { do ⌜ ((← (⟦Plan::MAX_USERS⟧).entry) ≡ max_users) × ((← (⟦Plan::MAX_RATE⟧).entry) ≡ max_rate) ⌝ }
-        ensures* length { do ⌜ (← (⟦Plan::MAX_LENGTH⟧).entry) ≡ max_length ⌝ }
-        ensures* prime { do ⌜ LargestPrime (2 ^ 32) (← (⟦Plan::MAX_Q⟧).entry) ⌝ }
+        ensures clusters { (Plan.MAX_CLUSTERS ≡ max_clusters) × (Plan.MAX_SIZE ≡ max_size) }
+        ensures users { (Plan.MAX_USERS ≡ max_users) × (Plan.MAX_RATE ≡ max_rate) }
+        ensures length { Plan.MAX_LENGTH ≡ max_length }
+        ensures prime { LargestPrime (2 ^ 32) Plan.MAX_Q }
     {
         let made = Plan {
             clusters,

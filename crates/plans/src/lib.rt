@@ -1,4 +1,6 @@
 // Plans: their counts, their bounds, and what is asked of a key table before anything is done with it.
+#![tactic(auto)]
+
 mod bounds;
 mod tables;
 
@@ -8,7 +10,7 @@ use refusals::Refusal;
 pub use tables::check_plan;
 
 // U clusters of V users each, a coalition limit T, R source symbols a position, and a prime q. Key tables are lent beside it.
-#[derive(Drop)]
+#[derive(Clone, Copy)]
 pub struct Plan {
     pub clusters: usize,
     pub size: usize,
@@ -18,7 +20,7 @@ pub struct Plan {
 }
 
 // What the plan's constructor, the table maker and the reader of a record answer.
-#[derive(Drop)]
+#[derive(Clone, Copy)]
 pub enum Planned {
     Made(Plan),
     Refused(Refusal),

@@ -1,5 +1,7 @@
 // Holds plans, records, the table maker and individual keys to a second implementation. Writes how often each number was answered (0: nothing is refused)
 // where the two agree, and how often they differ: in the number, its details, the plan, or what a buffer holds after the call.
+#![tactic(auto)]
+
 mod format;
 mod individual;
 mod making;
@@ -9,10 +11,10 @@ mod reading;
 mod shapes;
 mod writing;
 
-use libc::STDOUT_FILENO;
 use numbers::DIFFER;
+use std::io;
 use std::num::wrapping_add_usize;
-use testing::{clip, product};
+use testing::print_counts;
 
 // What is asked, in turn.
 const KINDS: usize = 10;
@@ -47,49 +49,35 @@ fn cases(kind: usize) -> usize {
     }
 }
 
-// As many bytes for each kind.
-const NAME: usize = 14;
-
-fn write_name(names: &[u8], kind: usize) {
-    let a = clip(product(kind, NAME), names.len());
-    let rest = &names[a..];
-    let n = clip(NAME, rest.len());
-    io::write_all(STDOUT_FILENO, &rest[..n]);
-}
-
-fn write_count(n: usize, number: usize) {
-    if n > 0 {
-        io::print_decimal(STDOUT_FILENO, n as u64);
-        io::write_all(STDOUT_FILENO, b" answered ");
-        io::print_decimal(STDOUT_FILENO, number as u64);
-        io::write_all(STDOUT_FILENO, b", ");
+fn name(kind: usize) -> &'static str {
+    match kind {
+        0 => "Plan::new:    ",
+        1 => "check_plan:   ",
+        2 => "write_record: ",
+        3 => "read damaged: ",
+        4 => "read cut:     ",
+        5 => "read lent:    ",
+        6 => "read marked:  ",
+        7 => "make_table:   ",
+        8 => "derive_keys:  ",
+        _ => "named cases:  ",
     }
 }
 
-fn write_counts(tally: [usize; 16]) {
-    for number in 0usize..DIFFER {
-        write_count(tally[number], number);
-    }
-    io::print_decimal(STDOUT_FILENO, tally[DIFFER] as u64);
-    io::write_all(STDOUT_FILENO, b" differ\n");
-}
-
-fn report(kind: usize) {
+fn report(rt: &impl Print, kind: usize) -> io::Result<()> {
     let many = cases(kind);
-    let mut tally = [0usize; 16];
+    let mut tally = [0usize; DIFFER + 1];
     for number in 0..many {
-        let n = outcome(kind, number) % 16;
+        let n = outcome(kind, number) % (DIFFER + 1);
         tally[n] = wrapping_add_usize(tally[n], 1);
     }
-    write_counts(tally);
+    print!(rt; "{}", name(kind))?;
+    print_counts(rt, "answered", &tally)
 }
 
-fn main() {
+fn main(rt: HostRuntime) -> io::Result<()> {
     for kind in 0usize..KINDS {
-        write_name(
-            b"Plan::new:    check_plan:   write_record: read damaged: read cut:     read lent:    read marked:  make_table:   derive_keys:  named cases:  ",
-            kind,
-        );
-        report(kind);
+        report(&rt, kind)?;
     }
+    Ok(())
 }

@@ -15,7 +15,7 @@ const ROOM: usize = 1120;
 
 // A buffer is a part of the drawn bytes before, a record, and drawn bytes: where it starts, its length, the byte that is changed, and what is added
 // to it. `lent` is the length of the lent table.
-#[derive(Drop)]
+#[derive(Clone, Copy)]
 pub struct Reading {
     pub number: usize,
     pub shape: Shape,

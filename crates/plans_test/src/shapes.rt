@@ -18,7 +18,7 @@ pub const TABLE: usize = 256;
 pub const TABLE_AND_ONE: usize = 257;
 
 // The counts of a plan and its q, all as numbers of one type. Its record is wide by its q, but where a test writes or reads it otherwise.
-#[derive(Drop)]
+#[derive(Clone, Copy)]
 pub struct Shape {
     pub clusters: usize,
     pub size: usize,

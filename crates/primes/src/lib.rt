@@ -1,5 +1,7 @@
 // Whether a number of 32 bits is prime: a small one by a bit, others by divisors while they are cheap, then by one power of 2, and last by a list. Of the
 // numbers with no divisor below 1,627 whose power says that they may be primes, the list has those that are none (the crate pseudoprimes).
+#![tactic(auto)]
+
 ghost use Rattle.std.specs.Prelude.{◌≡◌, ◌-◌, ◌*◌, ◌%◌, ◌^◌, ◌≤◌, ◌<◌};
 ghost use Rattle.residues.specs.Primes.{is_prime};
 

@@ -1,6 +1,6 @@
 -- Plan records (document 01, "Records and tapes"; document 02, Q-7). "Reading a record: 5, 1, 4, 2, 3. Writing one: 1, 4 for the table, 2, 3, 4 for the buffer;
 -- neither vets." There are two kinds of record, the old one and the wide one; they differ in the width alone, the bytes that q and each symbol have.
-use Rattle.std.specs.Prelude.{ℕ, zero, suc, ◌+◌, ◌-◌, ◌*◌, Bool, cond, not, ◌&&◌, ◌||◌, List, [], ◌∷◌, ◌++◌, ltb, eqb, length, replicate}
+use Rattle.std.specs.Prelude.{ℕ, ◌+◌, ◌-◌, ◌*◌, Bool, cond, not, ◌&&◌, ◌||◌, List, [], ◌∷◌, ◌++◌, ltb, eqb, length, replicate}
 use Rattle.refusals.specs.declared.Code.{Code}
 use Rattle.refusals.specs.Codes.{code, first_of, if_accepted}
 use Rattle.residues.specs.Primes.{is_prime, all_below}

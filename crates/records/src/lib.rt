@@ -1,4 +1,6 @@
 // Records: a reader of plan records that starts from the end of a buffer, and a writer.
+#![tactic(auto)]
+
 ghost use Rattle.std.specs.Prelude.{◌≡◌, true, false, ◌&&◌, [], ◌∷◌, ◌++◌, ◌+◌, ◌-◌, ◌*◌, ◌^◌, ◌≤◌, ◌<◌, eqb, length};
 ghost use Rattle.refusals.specs.Codes.{accepted, verdict_code};
 ghost use Rattle.residues.specs.Primes.{is_prime, all_below};

@@ -1,4 +1,6 @@
 // Reports: what the program `vet` does with the bytes that it reads.
+#![tactic(auto)]
+
 ghost use Rattle.std.specs.Prelude.{◌≡◌, ◌≤◌, length};
 ghost use Rattle.refusals.specs.Codes.{verdict_code};
 ghost use Rattle.lists.specs.Lists.{zeros};

@@ -1,1 +1,2 @@
 // Numbers modulo q, and primes: definitions and laws alone. There is no code to run.
+#![tactic(auto)]

@@ -1,12 +1,12 @@
 -- A relay's round is its ledger: for every state that is handed in, good or bad, and every list of events, each answer and the round after them are those
 -- of the log, in which a frame stands with the number of its round. Each round's part of the log is the ledger of LedgerLaws.
-use Prim.Native.Nat.{ℕ, ◌+◌, ◌≤◌, ◌<◌, ◌^◌}
+use Prim.Native.Nat.{ℕ, ◌+◌, ◌≤◌, ◌<◌}
 use mathlib.Core.Path.{◌≡◌, refl, sym, ap, ap₂, ◌∙◌, subst}
-use mathlib.Core.Bool.{Bool, true, false, cond, not, ◌&&◌, ◌||◌}
+use mathlib.Core.Bool.{Bool, true, false, cond, not, ◌||◌}
 use mathlib.Core.List.{List, [], ◌∷◌, ◌++◌}
 use native.Mathlib.Decide.{ℕ_discrete}
 use native.Mathlib.Omega.{arith}
-use lib.Dec.{ltb, eqb}
+use lib.Dec.{eqb}
 use lib.ListN.{length, take}
 use lib.Pow.{pow_pos}
 use borrow.Author.Tests.{not-false, eq-eqb, ne_eqb, eqb-true, lt-ltb}
@@ -15,7 +15,7 @@ use Rattle.refusals.specs.Codes.{code, accepted, is_accepted, first_of, if_accep
 use Rattle.refusals.proofs.CodeLaws.{none-holds}
 use Rattle.refusals.proofs.Orders.{rest-decides, first-decides, number-accepts}
 use Rattle.residues.specs.Primes.{all_below}
-use Rattle.lists.proofs.Searches.{T→true, one_known}
+use Rattle.lists.proofs.Searches.{one_known}
 use Rattle.lists.proofs.ListLaws.{length-zeros}
 use Rattle.residues.proofs.PrimeLaws.{prime-pos}
 use Rattle.rounds.specs.declared.Held.{Held}
@@ -24,7 +24,7 @@ use Rattle.rounds.specs.declared.RelayRound.{RelayRound}
 use Rattle.rounds.specs.Ledger.{Frame, frames_of}
 use Rattle.rounds.specs.Machine.{Good}
 use Rattle.rounds.specs.Rounds.{one_of, after, own_checks, is_full, lent_checks}
-use Rattle.rounds.specs.Relays.{relay_round, held_of, held_as, nothing, relay_known, relay_checks, has_next, is_next, ahead_of, round_for, relay_code}
+use Rattle.rounds.specs.Relays.{relay_round, held_of, held_as, nothing, relay_checks, has_next, is_next, ahead_of, round_for, relay_code}
 use Rattle.rounds.specs.Relays.{relay_counted, relay_next, move_code, moved, relay_give_code}
 use Rattle.rounds.specs.Relays.{Event, heard, moves, asks, told, next_of, relay_answers, relay_run}
 use Rattle.rounds.specs.Relays.{Log, log, held_for, base_of, round_at, relay_at, is_reported, all_reported, log_checks, log_code, log_told, log_next}

@@ -8,7 +8,7 @@ use native.Mathlib.Decide.{ℕ_discrete}
 use lib.Dec.{eqb}
 use lib.ListN.{length, take}
 use lib.Pow.{pow_pos}
-use borrow.Author.Tests.{not-false, eq-eqb, lt-ltb}
+use borrow.Author.Tests.{eq-eqb, lt-ltb}
 use Rattle.refusals.specs.Codes.{code, accepted, is_accepted, first_of, if_accepted}
 use Rattle.refusals.proofs.CodeLaws.{none-holds, accepted-takes}
 use Rattle.refusals.proofs.Orders.{rest-decides, number-accepts}

@@ -11,7 +11,7 @@ use lib.Dec.{ltb, eqb}
 use lib.ListN.{length, take}
 use lib.Pow.{pow_pos}
 use lib.Seq.{get_or-take, length-take-le}
-use borrow.Author.Tests.{not-false, eq-eqb, ne_eqb, lt-ltb}
+use borrow.Author.Tests.{eq-eqb, ne_eqb, lt-ltb}
 use Rattle.refusals.specs.Codes.{code, accepted, first_of}
 use Rattle.refusals.proofs.CodeLaws.{none-holds, accepted-takes}
 use Rattle.refusals.proofs.Orders.{rest-decides, number-accepts}

@@ -13,7 +13,7 @@ use std::num::{wrapping_add_u32, wrapping_add_usize, wrapping_sub_u32};
 use testing::{clip, over, power, product, quotient, residue, seed, state, wide, wide16};
 
 // The relay as the library has it and as the ledger says; whether the two differed at some event; and the mistake to be planted at the next.
-#[derive(Drop)]
+#[derive(Clone, Copy)]
 struct Day {
     relay: RelayRound,
     want: RelayRound,

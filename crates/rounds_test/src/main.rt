@@ -2,6 +2,8 @@
 // is refused) where the two agree, and how often they differ: in the number, its details, the state, the position, or what a buffer holds after the
 // call. A case is made of its number alone, so that each can be looked at by itself. Most are one call on a state that the model gives; a day is a relay's
 // whole run of calls from its opening on, held to a list of what was counted.
+#![tactic(auto)]
+
 mod days;
 mod draws;
 mod faults;
@@ -15,9 +17,9 @@ mod shapes;
 mod steps;
 mod turns;
 
-use libc::STDOUT_FILENO;
+use std::io;
 use std::num::wrapping_add_usize;
-use testing::{clip, product};
+use testing::print_counts;
 
 // The last two are no kinds of their own: frames and days, with a mistake in what is expected.
 fn outcome(kind: usize, case: usize) -> usize {
@@ -52,57 +54,41 @@ fn cases(kind: usize) -> usize {
     }
 }
 
-// 17 bytes for each kind.
-fn write_name(names: &[u8], kind: usize) {
-    let a = clip(product(kind, 17), names.len());
-    let rest = &names[a..];
-    let n = clip(17, rest.len());
-    io::write_all(STDOUT_FILENO, &rest[..n]);
+fn name(kind: usize) -> &'static str {
+    match kind {
+        0 => "openings:        ",
+        1 => "frames:          ",
+        2 => "sums:            ",
+        3 => "upload, unmask:  ",
+        4 => "draws:           ",
+        5 => "whole ways:      ",
+        6 => "named cases:     ",
+        7 => "moves on:        ",
+        8 => "days:            ",
+        9 => "mistaken frames: ",
+        _ => "mistaken days:   ",
+    }
 }
 
 // A day's number is how often it has moved on; all other numbers are answers.
-fn write_verb(kind: usize) {
-    if kind == 8 {
-        io::write_all(STDOUT_FILENO, b" moved on ");
-    } else {
-        io::write_all(STDOUT_FILENO, b" answered ");
-    }
+fn verb(kind: usize) -> &'static str {
+    if kind == 8 { "moved on" } else { "answered" }
 }
 
-fn write_count(kind: usize, n: usize, number: usize) {
-    if n > 0 {
-        io::print_decimal(STDOUT_FILENO, n as u64);
-        write_verb(kind);
-        io::print_decimal(STDOUT_FILENO, number as u64);
-        io::write_all(STDOUT_FILENO, b", ");
-    }
-}
-
-fn write_counts(kind: usize, tally: [usize; 16]) {
-    for number in 0usize..15 {
-        write_count(kind, tally[number], number);
-    }
-    io::print_decimal(STDOUT_FILENO, tally[15] as u64);
-    io::write_all(STDOUT_FILENO, b" differ\n");
-}
-
-fn report(kind: usize) {
+fn report(rt: &impl Print, kind: usize) -> io::Result<()> {
     let many = cases(kind);
     let mut tally = [0usize; 16];
     for case in 0..many {
         let n = outcome(kind, case) % 16;
         tally[n] = wrapping_add_usize(tally[n], 1);
     }
-    write_counts(kind, tally);
+    print!(rt; "{}", name(kind))?;
+    print_counts(rt, verb(kind), &tally)
 }
 
-fn main() {
+fn main(rt: HostRuntime) -> io::Result<()> {
     for kind in 0usize..11 {
-        write_name(
-            b"openings:        frames:          sums:            upload, unmask:  draws:           whole ways:      named cases:     \
-              moves on:        days:            mistaken frames: mistaken days:   ",
-            kind,
-        );
-        report(kind);
+        report(&rt, kind)?;
     }
+    Ok(())
 }

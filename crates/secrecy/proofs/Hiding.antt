@@ -16,7 +16,7 @@ use Rattle.matrices.specs.Rank.{same_list}
 use Rattle.lists.proofs.Members.{all_map}
 use Rattle.matrices.proofs.Vectors.{dot-scaled, dot-zeroed, dot-reduced, length-scale, vector-reduce, vector-zeros}
 use Rattle.lists.proofs.ListLaws.{length-zeros, at-tab, length-tab, tab-cong, tab-at}
-use Rattle.secrecy.specs.Leaks.{keys_showing, Leak, Symbols}
+use Rattle.secrecy.specs.Leaks.{keys_showing, Leak}
 use Rattle.matrices.proofs.MadeVectors.{tab-vector, entry-below}
 use Rattle.secrecy.proofs.Units.{shift, minus, el-shift, tab-shift, dot-shift, dot-minus, minus-vector}
 use Rattle.secrecy.proofs.CountLaws.{same-counts, counts-differ}

@@ -1,4 +1,6 @@
 // Entries of the server for callers in other languages: numbers, slices and arrays alone, and the same promises as the functions that they call.
+#![tactic(auto)]
+
 mod hours;
 mod totals;
 

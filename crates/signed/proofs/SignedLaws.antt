@@ -1,5 +1,5 @@
 -- Laws of the signed calls: "Taking a key off shows the reading likewise, and never gives 15.", and any block of symbols is shown.
-use Prim.Native.Nat.{ℕ, ◌+◌, ◌*◌, ◌≤◌, ◌<◌}
+use Prim.Native.Nat.{ℕ, ◌*◌, ◌≤◌, ◌<◌}
 use mathlib.Core.Path.{◌≡◌, refl, sym, ap, ap₂, ◌∙◌, subst}
 use mathlib.Core.Logic.{◌≢◌, ◌⊎◌, ◌↔◌}
 use mathlib.Core.Bool.{Bool, true, false, not, ◌&&◌}
@@ -15,11 +15,11 @@ use Rattle.refusals.proofs.CodeLaws.{accepted-takes, none-holds}
 use Rattle.refusals.proofs.Orders.{lacks, never-given, given-exactly}
 use Rattle.lists.proofs.Searches.{T_and, T→true}
 use Rattle.lists.proofs.ListLaws.{map_get}
-use Rattle.residues.specs.Primes.{is_prime, all_below}
+use Rattle.residues.specs.Primes.{all_below}
 use Rattle.residues.proofs.PrimeLaws.{at-below, below_at}
 use Rattle.matrices.specs.Linear.{Vector}
 use Rattle.plans.specs.declared.Plan.{Plan}
-use Rattle.plans.specs.Plans.{users_of, in_bounds, length_fits, plan_checks, plan_code}
+use Rattle.plans.specs.Plans.{users_of, length_fits, plan_checks, plan_code}
 use Rattle.masking.proofs.BlockLaws.{upload-vector, unmask-upload}
 use Rattle.signed.specs.Numbers.{symbol_of, shown_of}
 use Rattle.signed.specs.Caps.{cap_fits, is_in_cap, all_in_cap}

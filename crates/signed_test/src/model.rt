@@ -7,7 +7,7 @@ use std::num::{wrapping_add_usize, wrapping_sub_usize};
 use testing::{is_outside, is_prime, over, product, quotient, wide, wide16};
 
 // What a call is given beside its blocks.
-#[derive(Drop)]
+#[derive(Clone, Copy)]
 pub struct Shape {
     pub plan: Plan,
     pub cap: u32,

@@ -1,40 +1,41 @@
 // Reads a cap, a number of rounds and a plan record on standard input, runs the pool on paper, and prints a line a round.
-use libc::{STDIN_FILENO, STDOUT_FILENO};
+#![tactic(auto)]
+
 use refusals::Verdict;
 use simulation::Run;
+use std::io;
+use std::io::Read;
 use texts::Line;
 
-fn write_line(line: Line) {
+// One byte more than a program takes, so that a longer input is seen.
+const ROOM: u64 = 65536;
+
+fn write_line(rt: &impl Print, line: Line) -> io::Result<()> {
     let text = line.text;
     let end = line.length;
     if end <= Line::PLACES {
-        io::write_all(STDOUT_FILENO, &text[..end]);
+        rt.write_all(&text[..end])?;
     }
+    Ok(())
 }
 
-fn write_rounds(first: Run) {
+fn write_rounds(rt: &impl Print, first: Run) -> io::Result<()> {
     let mut run = first;
     let rounds = run.rounds;
-    let mut k: u32 = 0;
-    while k < rounds {
+    for _ in 0..rounds {
         let next = simulation::next_line(run);
-        let line = next.line;
-        write_line(line);
+        write_line(rt, next.line)?;
         run = next.run;
-        k += 1;
     }
+    Ok(())
 }
 
-fn main() {
-    // One byte more than a program takes, so that a longer input is seen.
-    let mut buffer = io::large_buffer();
-    let n = io::read_full(STDIN_FILENO, &mut buffer);
-    let opened = simulation::open(&buffer[..n]);
-    let answer = opened.answer;
-    let run = opened.run;
-    if let Verdict::Refused(refusal) = answer {
-        write_line(simulation::refused_line(Verdict::Refused(refusal)));
-        return;
+fn main(rt: HostRuntime) -> io::Result<()> {
+    let mut input = Vec::new(rt.alloc());
+    rt.reader().take(ROOM).read_to_end(&mut input)?;
+    let opened = simulation::open(&input);
+    if let Verdict::Refused(refusal) = opened.answer {
+        return write_line(&rt, simulation::refused_line(Verdict::Refused(refusal)));
     }
-    write_rounds(run);
+    write_rounds(&rt, opened.run)
 }

@@ -1,66 +1,59 @@
 // Runs each file that its arguments name as the program `simulate` does its input, and writes the file's name and the lines.
-use libc::STDOUT_FILENO;
+#![tactic(auto)]
+
 use refusals::Verdict;
 use simulation::Run;
+use std::fs::File;
+use std::io::Read;
+use std::rt::Files;
+use std::{env, io};
 use texts::Line;
 
-fn write_line(line: Line) {
+// One byte more than a program takes, so that a longer file is seen.
+const ROOM: u64 = 65536;
+
+fn write_line(rt: &impl Print, line: Line) -> io::Result<()> {
     let text = line.text;
     let end = line.length;
     if end <= Line::PLACES {
-        io::write_all(STDOUT_FILENO, &text[..end]);
+        rt.write_all(&text[..end])?;
     }
+    Ok(())
 }
 
-fn write_rounds(first: Run) {
+fn write_rounds(rt: &impl Print, first: Run) -> io::Result<()> {
     let mut run = first;
     let rounds = run.rounds;
-    let mut k: u32 = 0;
-    while k < rounds {
+    for _ in 0..rounds {
         let next = simulation::next_line(run);
-        let line = next.line;
-        write_line(line);
+        write_line(rt, next.line)?;
         run = next.run;
-        k += 1;
     }
+    Ok(())
 }
 
-fn run_bytes(bytes: &[u8]) {
+fn run_bytes(rt: &impl Print, bytes: &[u8]) -> io::Result<()> {
     let opened = simulation::open(bytes);
-    let answer = opened.answer;
-    let run = opened.run;
-    if let Verdict::Refused(refusal) = answer {
-        write_line(simulation::refused_line(Verdict::Refused(refusal)));
-        return;
+    if let Verdict::Refused(refusal) = opened.answer {
+        return write_line(rt, simulation::refused_line(Verdict::Refused(refusal)));
     }
-    write_rounds(run);
+    write_rounds(rt, opened.run)
 }
 
-fn run_file(file: i32) {
-    // One byte more than a program takes, so that a longer file is seen.
-    let mut buffer = io::large_buffer();
-    let n = io::read_full(file, &mut buffer);
-    run_bytes(&buffer[..n]);
-}
-
-fn run_argument(k: usize) {
-    let mut name = io::buffer();
-    let n = os::arg(k, &mut name);
-    io::write_all(STDOUT_FILENO, &name[..n]);
-    io::write_all(STDOUT_FILENO, b":\n");
-    let file = os::open_read(&name[..n]);
+fn run_file<R: Print + Files + Alloc>(rt: &R, name: &str) -> io::Result<()> {
+    println!(rt; "{name}:")?;
     // Without this a missing file would pass for an empty one.
-    if file < 0 {
-        io::write_all(STDOUT_FILENO, b"no file\n");
-        return;
-    }
-    run_file(file);
-    libc::close(file);
+    let Ok(file) = File::open(rt, name) else {
+        return println!(rt; "no file");
+    };
+    let mut bytes = Vec::new(rt.alloc());
+    file.take(ROOM).read_to_end(&mut bytes)?;
+    run_bytes(rt, &bytes)
 }
 
-fn main() {
-    let count = os::arg_count();
-    for k in 1..count {
-        run_argument(k);
+fn main(rt: HostRuntime) -> io::Result<()> {
+    for name in env::args(&rt)?.skip(1) {
+        run_file(&rt, name.as_str())?;
     }
+    Ok(())
 }

@@ -1,6 +1,6 @@
 -- What the program `simulate` prints, from the bytes that it reads: "The program reads m and the number of rounds, four bytes each, low first, and takes the
 -- rest as the buffer of a plan record."
-use Rattle.std.specs.Prelude.{ℕ, zero, suc, ◌+◌, Bool, not, ◌&&◌, List, [], ◌∷◌, ◌++◌, leb, ltb, length, drop}
+use Rattle.std.specs.Prelude.{ℕ, zero, suc, Bool, not, ◌&&◌, List, [], ◌∷◌, ◌++◌, leb, ltb, length, drop}
 use Rattle.refusals.specs.declared.Code.{Code}
 use Rattle.refusals.specs.Codes.{code, first_of, if_accepted}
 use Rattle.lists.specs.Lists.{zeros}

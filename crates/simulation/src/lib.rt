@@ -1,4 +1,6 @@
 // A pool on paper: a run of trials, from the bytes that the program reads to the lines that it prints.
+#![tactic(auto)]
+
 mod input;
 mod lines;
 
@@ -11,7 +13,7 @@ use refusals::Verdict;
 use texts::Line;
 
 // A run of rounds: a plan and its key table with 0 past it, a cap, how many rounds there are, the next one's number and the generator's state before it.
-#[derive(Drop)]
+#[derive(Clone, Copy)]
 pub struct Run {
     pub plan: Plan,
     pub table: [Symbol; READ_TABLE],
@@ -22,7 +24,7 @@ pub struct Run {
 }
 
 // The next line of a run, and the run after it.
-#[derive(Drop)]
+#[derive(Clone, Copy)]
 pub struct Next {
     pub answer: Verdict,
     pub line: Line,
@@ -30,7 +32,7 @@ pub struct Next {
 }
 
 // A run that is opened.
-#[derive(Drop)]
+#[derive(Clone, Copy)]
 pub struct Opening {
     pub answer: Verdict,
     pub run: Run,

@@ -4,7 +4,7 @@ use testing::{byte_at, over};
 use texts::Line;
 
 // What a line should say: of the shown total the symbol, and the prime.
-#[derive(Drop)]
+#[derive(Clone, Copy)]
 pub struct Told {
     pub number: usize,
     pub last: usize,

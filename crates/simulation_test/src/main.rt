@@ -1,16 +1,18 @@
 // Holds the library simulation to a second implementation, line by line, on whole, damaged and hostile inputs. Writes how often each number was answered (0:
 // nothing is refused) where the two agree, and how often they differ: in the number, in a line, or in what comes after the last line.
+#![tactic(auto)]
+
 mod inputs;
 mod lines;
 mod second;
 
-use libc::STDOUT_FILENO;
 use lines::{Told, says, says_number};
 use refusals::Verdict;
 use second::Pool;
 use simulation::Run;
+use std::io;
 use std::num::wrapping_add_usize;
-use testing::{clip, over};
+use testing::{clip, over, print_counts};
 
 // What a comparison says where the two differ; otherwise it says the number that was answered.
 const DIFFER: usize = 19;
@@ -51,7 +53,7 @@ fn ended(run: Run) -> usize {
 }
 
 // A run and the second implementation's state, and whether all lines before agree.
-#[derive(Drop)]
+#[derive(Clone, Copy)]
 struct Turn {
     run: Run,
     state: usize,
@@ -113,38 +115,45 @@ fn outcome(kind: usize, case: usize, mistake: usize, buffer: &mut [u8]) -> usize
     compared(&buffer[..end], mistake)
 }
 
-fn write_count(n: usize, number: usize) {
-    if n > 0 {
-        io::print_decimal(STDOUT_FILENO, n as u64);
-        io::write_all(STDOUT_FILENO, b" answered ");
-        io::print_decimal(STDOUT_FILENO, number as u64);
-        io::write_all(STDOUT_FILENO, b", ");
-    }
-}
-
-fn write_counts(tally: [usize; DIFFER + 1]) {
-    for number in 0..DIFFER {
-        write_count(tally[number], number);
-    }
-    io::print_decimal(STDOUT_FILENO, tally[DIFFER] as u64);
-    io::write_all(STDOUT_FILENO, b" differ\n");
-}
-
-fn report(name: &[u8], kind: usize, from: usize, to: usize, mistakes: usize, buffer: &mut [u8]) {
+fn report(
+    rt: &impl Print,
+    name: &str,
+    kind: usize,
+    from: usize,
+    to: usize,
+    mistakes: usize,
+    buffer: &mut [u8],
+) -> io::Result<()> {
     let mut tally = [0usize; DIFFER + 1];
     for case in from..to {
         let mistake = over(mistakes == 0, NO_MISTAKE, case % MISTAKES + 1);
         let n = clip(outcome(kind, case, mistake, buffer), DIFFER);
         tally[n] = wrapping_add_usize(tally[n], 1);
     }
-    io::write_all(STDOUT_FILENO, name);
-    write_counts(tally);
+    print!(rt; "{name}")?;
+    print_counts(rt, "answered", &tally)
 }
 
-fn main() {
-    let mut buffer = io::large_buffer();
-    report(b"whole:    ", inputs::WHOLE, 0, 6000, 0, &mut buffer);
-    report(b"damaged:  ", inputs::DAMAGED, 10000, 18000, 0, &mut buffer);
-    report(b"hostile:  ", 2, 20000, 28000, 0, &mut buffer);
-    report(b"mistaken: ", inputs::WHOLE, 30000, 30200, 1, &mut buffer);
+fn main(rt: HostRuntime) -> io::Result<()> {
+    let mut buffer = [0u8; 65536];
+    report(&rt, "whole:    ", inputs::WHOLE, 0, 6000, 0, &mut buffer)?;
+    report(
+        &rt,
+        "damaged:  ",
+        inputs::DAMAGED,
+        10000,
+        18000,
+        0,
+        &mut buffer,
+    )?;
+    report(&rt, "hostile:  ", 2, 20000, 28000, 0, &mut buffer)?;
+    report(
+        &rt,
+        "mistaken: ",
+        inputs::WHOLE,
+        30000,
+        30200,
+        1,
+        &mut buffer,
+    )
 }

@@ -20,7 +20,7 @@ const WHOLE: usize = 4294967296;
 const HALF: usize = 65536;
 
 // What the bytes say, and the place of the first symbol.
-#[derive(Drop)]
+#[derive(Clone, Copy)]
 pub struct Pool {
     pub cap: usize,
     pub rounds: usize,

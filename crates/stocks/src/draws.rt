@@ -56,7 +56,7 @@ impl Stock {
     pub fn open(pools: usize, reserves: &[usize], limits: &[usize], stream: &[Symbol]) -> StockStep
         ensures code { verdict_code result.answer ≡ open_code pools reserves.now limits.now stream.now }
         ensures stock { result.stock ≡ open_stock pools reserves.now limits.now stream.now }
-        ensures* most { do ⌜ (← (⟦Stock::MAX_POOLS⟧).entry) ≡ max_pools ⌝ }
+        ensures most { Stock.MAX_POOLS ≡ max_pools }
     {
         let opening = Stock::check_opening(pools, reserves, limits, stream);
         if !opening.is_accepted() {

@@ -1,4 +1,6 @@
 // One key stream for several pools: each has a reserve and a limit, and what all have drawn makes the position.
+#![tactic(auto)]
+
 mod draws;
 mod entries;
 mod soundness;
@@ -6,7 +8,7 @@ mod soundness;
 use refusals::Verdict;
 
 // The number of pools, and for each its reserve, its limit and what it has drawn, in symbols: 0 past the pools.
-#[derive(Drop)]
+#[derive(Clone, Copy)]
 pub struct Stock {
     pub pools: usize,
     pub reserves: [usize; Stock::MAX_POOLS],
@@ -15,7 +17,7 @@ pub struct Stock {
 }
 
 // The answer to a step, and the stock after it.
-#[derive(Drop)]
+#[derive(Clone, Copy)]
 pub struct StockStep {
     pub answer: Verdict,
     pub stock: Stock,

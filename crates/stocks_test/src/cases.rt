@@ -152,7 +152,7 @@ pub fn drawn_opening(case: usize) -> usize {
 }
 
 // A log after one draw more, and what the comparison says.
-#[derive(Drop)]
+#[derive(Clone, Copy)]
 struct Turn {
     log: Log,
     found: usize,

@@ -12,7 +12,7 @@ pub const MOST: usize = 18446744073709551615;
 
 const LONGEST_BLOCK: usize = 64;
 
-#[derive(Drop)]
+#[derive(Clone, Copy)]
 pub struct Log {
     pub pools: usize,
     pub reserves: [usize; Stock::MAX_POOLS],
@@ -26,7 +26,7 @@ pub struct Log {
 }
 
 // A draw: its pool, how many symbols it asks for, and how many the buffer holds.
-#[derive(Drop)]
+#[derive(Clone, Copy)]
 pub struct Ask {
     pub pool: usize,
     pub length: usize,

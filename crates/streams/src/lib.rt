@@ -1,4 +1,6 @@
 // The key stream: a run of symbols, each of which is drawn once.
+#![tactic(auto)]
+
 ghost use Rattle.std.specs.Prelude.{◌≡◌, ◌+◌, ◌≤◌, length};
 ghost use Rattle.refusals.specs.Codes.{verdict_code};
 ghost use Rattle.streams.specs.Streams.{drawn, draw_code, position_after, buffer_after};
@@ -8,13 +10,13 @@ use plans::length_fits;
 use refusals::{Refusal, Verdict};
 
 // A place on a key stream: the symbols before it are used up.
-#[derive(Drop)]
+#[derive(Clone, Copy)]
 pub struct Position {
     pub at: usize,
 }
 
 // The answer to a draw, and the position after it.
-#[derive(Drop)]
+#[derive(Clone, Copy)]
 pub struct Drawn {
     pub answer: Verdict,
     pub at: usize,

@@ -1,9 +1,11 @@
 // Lines of text: what programs print, byte by byte.
+#![tactic(auto)]
+
 ghost use Rattle.std.specs.Prelude.{◌≡◌, [], ◌∷◌};
 ghost use Rattle.texts.specs.Texts.{decimal, signed_decimal, field, typed, line_with};
 
 // A line of at most 56 bytes, room for five numbers of 32 bits; 0 past its end.
-#[derive(Drop)]
+#[derive(Clone, Copy)]
 pub struct Line {
     pub text: [u8; Line::PLACES],
     pub length: usize,

@@ -1,4 +1,6 @@
 // A round on paper: a plan with made-up readings and keys, through the library's own entries.
+#![tactic(auto)]
+
 mod draws;
 mod generator;
 mod sums;
@@ -11,7 +13,7 @@ use refusals::Refusal;
 pub use trials::try_round;
 
 // What is told of a round: the last sender's index, relay 1's sum, the true sum of the readings, the shown total, and the generator's state after it.
-#[derive(Drop)]
+#[derive(Clone, Copy)]
 pub struct Trial {
     pub last: usize,
     pub first: Symbol,
@@ -21,14 +23,14 @@ pub struct Trial {
 }
 
 // The answer of a round on paper.
-#[derive(Drop)]
+#[derive(Clone, Copy)]
 pub enum Tried {
     Made(Trial),
     Refused(Refusal),
 }
 
 // What the relays and the server make of a round.
-#[derive(Drop)]
+#[derive(Clone, Copy)]
 pub struct Settled {
     pub first: Symbol,
     pub shown: i32,

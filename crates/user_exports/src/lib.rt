@@ -1,4 +1,6 @@
 // Entries of a user for callers in other languages: numbers, slices and arrays alone, and the same promises as the functions that they call.
+#![tactic(auto)]
+
 ghost use Rattle.std.specs.Prelude.{◌≡◌};
 ghost use Rattle.masking.specs.Blocks.{block_code, upload_after, unmask_after};
 ghost use Rattle.signed.specs.SignedBlocks.{signed_upload_code, signed_upload_after, signed_unmask_code, signed_unmask_after};

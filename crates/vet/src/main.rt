@@ -1,12 +1,17 @@
 // Reads one plan record on standard input and prints the verdict: a number, 0 for accepted, and two details.
-use libc::{STDIN_FILENO, STDOUT_FILENO};
+#![tactic(auto)]
 
-fn main() {
-    // One byte more than a program takes, so that a longer input is seen.
-    let mut buffer = io::large_buffer();
-    let n = io::read_full(STDIN_FILENO, &mut buffer);
-    let line = reports::vet_line(&buffer[..n]);
+use std::io;
+use std::io::Read;
+
+// One byte more than a program takes, so that a longer input is seen.
+const ROOM: u64 = 65536;
+
+fn main(rt: HostRuntime) -> io::Result<()> {
+    let mut input = Vec::new(rt.alloc());
+    rt.reader().take(ROOM).read_to_end(&mut input)?;
+    let line = reports::vet_line(&input);
     let text = line.text;
     let end = line.length;
-    io::write_all(STDOUT_FILENO, &text[..end]);
+    rt.write_all(&text[..end])
 }

@@ -1,38 +1,35 @@
 // Vets each file that its arguments name as the program `vet` does its input, and writes the file's name and the line.
-use libc::STDOUT_FILENO;
+#![tactic(auto)]
 
-fn write_line(bytes: &[u8]) {
+use std::fs::File;
+use std::io::Read;
+use std::rt::Files;
+use std::{env, io};
+
+// One byte more than a program takes, so that a longer file is seen.
+const ROOM: u64 = 65536;
+
+fn write_line(rt: &impl Print, bytes: &[u8]) -> io::Result<()> {
     let line = reports::vet_line(bytes);
     let text = line.text;
     let end = line.length;
-    io::write_all(STDOUT_FILENO, &text[..end]);
+    rt.write_all(&text[..end])
 }
 
-fn vet_file(file: i32) {
-    // One byte more than a program takes, so that a longer file is seen.
-    let mut buffer = io::large_buffer();
-    let n = io::read_full(file, &mut buffer);
-    write_line(&buffer[..n]);
-}
-
-fn vet_argument(k: usize) {
-    let mut name = io::buffer();
-    let n = os::arg(k, &mut name);
-    io::write_all(STDOUT_FILENO, &name[..n]);
-    io::write_all(STDOUT_FILENO, b": ");
-    let file = os::open_read(&name[..n]);
+fn vet_file<R: Print + Files + Alloc>(rt: &R, name: &str) -> io::Result<()> {
+    print!(rt; "{name}: ")?;
     // Without this a missing file would pass for an empty one.
-    if file < 0 {
-        io::write_all(STDOUT_FILENO, b"no file\n");
-        return;
-    }
-    vet_file(file);
-    libc::close(file);
+    let Ok(file) = File::open(rt, name) else {
+        return println!(rt; "no file");
+    };
+    let mut bytes = Vec::new(rt.alloc());
+    file.take(ROOM).read_to_end(&mut bytes)?;
+    write_line(rt, &bytes)
 }
 
-fn main() {
-    let count = os::arg_count();
-    for k in 1..count {
-        vet_argument(k);
+fn main(rt: HostRuntime) -> io::Result<()> {
+    for name in env::args(&rt)?.skip(1) {
+        vet_file(&rt, name.as_str())?;
     }
+    Ok(())
 }

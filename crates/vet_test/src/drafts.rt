@@ -2,7 +2,7 @@
 use crate::numbers::{OLD, WIDE, after, before, from_one, put_number, put_word};
 use testing::{PRIMES, draw, prime, product, put_byte, quotient, residue, state};
 
-#[derive(Drop)]
+#[derive(Clone, Copy)]
 pub struct Draft {
     pub clusters: usize,
     pub size: usize,

@@ -10,7 +10,7 @@ pub const BUFFER: usize = 65536;
 const FILLED: usize = 64400;
 
 // The part of the buffer that is the input, and that which was written as a record.
-#[derive(Drop)]
+#[derive(Clone, Copy)]
 pub struct Input {
     pub start: usize,
     pub end: usize,

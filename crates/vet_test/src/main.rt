@@ -1,4 +1,6 @@
 // Holds the whole way from bytes to the printed line to a second implementation, on drawn records, whole and damaged, and writes a tally.
+#![tactic(auto)]
+
 mod drafts;
 mod inputs;
 mod numbers;
@@ -7,6 +9,7 @@ mod tally;
 mod text;
 
 use inputs::{Input, make};
+use std::io;
 use tally::{Tally, none};
 
 const INPUTS: usize = 20000;
@@ -47,7 +50,7 @@ fn compared_all(buffer: &mut [u8]) -> Tally {
     t
 }
 
-fn main() {
-    let mut buffer = io::large_buffer();
-    tally::write(compared_all(&mut buffer));
+fn main(rt: HostRuntime) -> io::Result<()> {
+    let mut buffer = [0u8; 65536];
+    tally::print(&rt, compared_all(&mut buffer))
 }

@@ -9,7 +9,7 @@ use refusals::Code;
 use testing::{byte_at, is_prime, narrow, narrow16, product, put, residue, word_at};
 
 // What the record says, and the place of its first symbol.
-#[derive(Drop)]
+#[derive(Clone, Copy)]
 struct Head {
     clusters: usize,
     size: usize,

@@ -1,8 +1,8 @@
 // How many inputs got each number, and how many were told otherwise by the second implementation.
-use libc::STDOUT_FILENO;
+use std::io;
 use std::num::wrapping_add_u64;
 
-#[derive(Drop)]
+#[derive(Clone, Copy)]
 pub struct Tally {
     inputs: u64,
     wide: u64,
@@ -42,32 +42,26 @@ impl Tally {
     }
 }
 
-fn write_count(name: &[u8], n: u64) {
-    io::write_all(STDOUT_FILENO, name);
-    io::print_decimal(STDOUT_FILENO, n);
-    io::write_all(STDOUT_FILENO, b"\n");
-}
-
 // In the order in which the reader finds them.
-fn write_reader(n: [u64; 8]) {
-    write_count(b"5, trailer: ", n[5]);
-    write_count(b"1, counts: ", n[1]);
-    write_count(b"4, length: ", n[4]);
-    write_count(b"2, not prime: ", n[2]);
-    write_count(b"3, symbols: ", n[3]);
+fn print_reader(rt: &impl Print, n: [u64; 8]) -> io::Result<()> {
+    println!(rt; "5, trailer: {}", n[5])?;
+    println!(rt; "1, counts: {}", n[1])?;
+    println!(rt; "4, length: {}", n[4])?;
+    println!(rt; "2, not prime: {}", n[2])?;
+    println!(rt; "3, symbols: {}", n[3])
 }
 
-fn write_vet(n: [u64; 8]) {
-    write_count(b"6, columns: ", n[6]);
-    write_count(b"7, leaks: ", n[7]);
-    write_count(b"0, accepted: ", n[0]);
+fn print_vet(rt: &impl Print, n: [u64; 8]) -> io::Result<()> {
+    println!(rt; "6, columns: {}", n[6])?;
+    println!(rt; "7, leaks: {}", n[7])?;
+    println!(rt; "0, accepted: {}", n[0])
 }
 
-pub fn write(t: Tally) {
+pub fn print(rt: &impl Print, t: Tally) -> io::Result<()> {
     let n = t.numbers;
-    write_count(b"inputs: ", t.inputs);
-    write_count(b"wide marks: ", t.wide);
-    write_reader(n);
-    write_vet(n);
-    write_count(b"differ: ", t.differ);
+    println!(rt; "inputs: {}", t.inputs)?;
+    println!(rt; "wide marks: {}", t.wide)?;
+    print_reader(rt, n)?;
+    print_vet(rt, n)?;
+    println!(rt; "differ: {}", t.differ)
 }

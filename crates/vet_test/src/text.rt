@@ -3,7 +3,7 @@ use refusals::Code;
 use texts::Line;
 
 // As many bytes as a line has places, 0 past the end.
-#[derive(Drop)]
+#[derive(Clone, Copy)]
 struct Text {
     bytes: [u8; Line::PLACES],
     length: usize,

@@ -6,7 +6,6 @@ use mathlib.Core.Logic.{◌↔◌}
 use mathlib.Core.List.{List}
 use native.Mathlib.Nat.{div-lt_iff_lt-mul}
 use native.Mathlib.Omega.{arith}
-use lib.Dec.{T}
 use Rattle.refusals.specs.Codes.{accepted, first_of}
 use Rattle.lists.proofs.Members.{all_map}
 use Rattle.lists.proofs.Sets.{Filled, filled, lower, lower-below, lower-few}

@@ -1,7 +1,7 @@
 -- What the vet with a pair of relays claims: which answers come before 19, what an acceptance means, and that with two relays the pair always leaks.
 use mathlib.Core.Path.{◌≡◌, refl, sym, ap, ◌∙◌, subst}
-use mathlib.Core.Bool.{Bool, true, false, cond, not, ◌&&◌}
-use mathlib.Core.List.{List, ◌∷◌, ◌++◌, map, append_assoc}
+use mathlib.Core.Bool.{Bool, true, false, cond, not}
+use mathlib.Core.List.{List, ◌∷◌, ◌++◌, append_assoc}
 use Prim.Native.Nat.{ℕ, ◌-◌, ◌^◌, ◌≤◌, ◌<◌}
 use native.Mathlib.Omega.{arith}
 use lib.Dec.{T, eqb, leb}
@@ -18,17 +18,15 @@ use Rattle.secrecy.specs.Leaks.{longest, keys_showing, Symbols, Agree, JointLeak
 use Rattle.secrecy.proofs.PairLeaks.{joint-equal-numbers, two-clusters-leak}
 use Rattle.plans.specs.declared.Plan.{Plan}
 use Rattle.plans.specs.Plans.{users_of, table_checks}
-use Rattle.vetting.specs.declared.Joint.{Joint}
-use Rattle.vetting.specs.declared.Joint.TheVariants.{None, Relays}
+use Rattle.vetting.specs.declared.Joint.TheVariants.{Relays}
 use Rattle.vetting.specs.Pools.{pool_of}
 use Rattle.vetting.specs.Walk.{pairs}
-use Rattle.vetting.specs.Vet.{column_checks, leak_check, other_checks, vet_checks, vet_code}
-use Rattle.vetting.specs.Length.{pair_count, place_in, looked_at}
+use Rattle.vetting.specs.Vet.{column_checks, leak_check, vet_checks, vet_code}
+use Rattle.vetting.specs.Length.{place_in, looked_at}
 use Rattle.vetting.specs.Joint.{relays_fit, joint_checks, checks_before, joint_code, joint_looked}
 use Rattle.vetting.proofs.PlanLaws.{vetted, vet-numbered}
 use Rattle.vetting.proofs.ExactSecrecy.{checked, accepted-checked}
-use Rattle.vetting.proofs.Looking.{accepted-looked}
-use Rattle.vetting.proofs.JointLaws.{other-first, vet-other, none-eight, leak_checks, table-refuses, joint-none, before-parts, joint-iff, joint-named}
+use Rattle.vetting.proofs.JointLaws.{other-first, vet-other, none-eight, leak_checks, table-refuses, before-parts, joint-iff, joint-named}
 
 module _ (P : Plan) (K : List ℕ) (a b : ℕ) where
   abbrev joint : List (Bool × Code)

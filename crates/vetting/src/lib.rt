@@ -1,4 +1,6 @@
 // Vetting: the exact verdict on the secrecy of a plan.
+#![tactic(auto)]
+
 mod checks;
 mod largest;
 mod length;
@@ -12,21 +14,21 @@ use refusals::{Refusal, Verdict};
 pub use under_lock::vet_joint;
 
 // A coalition, and an observer: relay 1 to U, 0 for the server, or U + 1 for the joint observer.
-#[derive(Drop)]
+#[derive(Clone, Copy)]
 pub struct Pair {
     pub coalition: u16,
     pub observer: u16,
 }
 
 // What the walk finds: the first pair that leaks.
-#[derive(Drop)]
+#[derive(Clone, Copy)]
 pub enum Found {
     At(Pair),
     Nothing,
 }
 
 // What it finds, and how many pairs it looked at.
-#[derive(Drop)]
+#[derive(Clone, Copy)]
 pub struct Walked {
     pub found: Found,
     pub looked: u32,
@@ -34,21 +36,21 @@ pub struct Walked {
 
 // The vet's verdict, and how many pairs it looked at: all of them, or up to the first that leaks; 0 where the walk did not start, and where only the joint
 // observer leaks.
-#[derive(Drop)]
+#[derive(Clone, Copy)]
 pub struct Report {
     pub verdict: Verdict,
     pub looked: u32,
 }
 
 // Relays that stand under one lock, if any do: two, the lower number first.
-#[derive(Drop)]
+#[derive(Clone, Copy)]
 pub enum Joint {
     None,
     Relays { first: usize, second: usize },
 }
 
 // How many pairs there are.
-#[derive(Drop)]
+#[derive(Clone, Copy)]
 pub enum PairCount {
     Pairs(u32),
     Refused(Refusal),

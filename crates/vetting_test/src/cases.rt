@@ -4,7 +4,7 @@ use crate::wrong;
 use arithmetic::Symbol;
 use testing::{product, put, quotient, residue, seed};
 
-#[derive(Drop)]
+#[derive(Clone, Copy)]
 pub struct Case {
     pub group: usize,
     pub number: usize,

@@ -8,7 +8,7 @@ use std::num::{wrapping_add_u8, wrapping_add_usize, wrapping_sub_u8};
 use testing::{mul_add, narrow16, power, product, quotient, residue};
 
 // A coalition and an observer, 0 for the server; of a joint observer two relays, else the other is 0.
-#[derive(Drop)]
+#[derive(Clone, Copy)]
 struct Pair {
     coalition: usize,
     observer: usize,
@@ -16,7 +16,7 @@ struct Pair {
 }
 
 // A view as one number, a digit to the base q for each symbol; and the sum of the cluster that is being gone through.
-#[derive(Drop)]
+#[derive(Clone, Copy)]
 struct Part {
     number: usize,
     sum: usize,
@@ -168,7 +168,7 @@ fn differ(
 }
 
 // What is kept of readings, their place, and for those that are not kept their sum and the first one's place.
-#[derive(Drop)]
+#[derive(Clone, Copy)]
 struct Kept {
     readings: usize,
     place: usize,

@@ -3,7 +3,7 @@ use crate::counting::place_of;
 use crate::expected::fits;
 use crate::numbers::pack;
 use crate::tables::Shape;
-use libc::STDOUT_FILENO;
+use std::io;
 use std::num::wrapping_add_usize;
 use testing::wide16;
 use vetting::PairCount;
@@ -61,16 +61,11 @@ fn count(tally: &mut [usize; 3]) {
     }
 }
 
-fn write_count(n: usize, end: &[u8]) {
-    io::print_decimal(STDOUT_FILENO, n as u64);
-    io::write_all(STDOUT_FILENO, end);
-}
-
-pub fn report() {
+pub fn report(rt: &impl Print) -> io::Result<()> {
     let mut tally = [0usize; 3];
     count(&mut tally);
-    io::write_all(STDOUT_FILENO, b"figures: ");
-    write_count(tally[0], b" counted, ");
-    write_count(tally[1], b" refused 1, ");
-    write_count(tally[2], b" differ\n");
+    println!(rt;
+        "figures: {} counted, {} refused 1, {} differ",
+        tally[0], tally[1], tally[2]
+    )
 }

@@ -6,7 +6,7 @@ use crate::numbers::{first_of, number_of, pack};
 use crate::tables::Shape;
 use crate::{LONGEST, cases, looked_at, plan_of, said, second_answer};
 use arithmetic::Symbol;
-use libc::STDOUT_FILENO;
+use std::io;
 use std::num::wrapping_add_usize;
 use vetting::Joint;
 
@@ -41,7 +41,7 @@ const PLACES: usize = 23;
 // Of the tiny plans those that have at least so many.
 const CLUSTERS: usize = 3;
 
-#[derive(Drop)]
+#[derive(Clone, Copy)]
 struct Relays {
     first: usize,
     second: usize,
@@ -182,32 +182,26 @@ fn count(group: usize, counts: &mut [u8; 65536], tally: &mut [usize; PLACES]) {
     }
 }
 
-fn write_count(n: usize, end: &[u8]) {
-    io::print_decimal(STDOUT_FILENO, n as u64);
-    io::write_all(STDOUT_FILENO, end);
+fn print_line(rt: &impl Print, tally: &[usize; PLACES]) -> io::Result<()> {
+    let (alone, accepted) = (tally[ALONE], tally[ACCEPTED]);
+    print!(rt; "joint pairs: {alone} plans without one as before; {accepted} accepted, ")?;
+    print!(rt; "{} refused 1, ", tally[OUT_OF_BOUNDS])?;
+    print!(rt; "{} refused 4, ", tally[WRONG_LENGTH])?;
+    print!(rt; "{} refused 2, ", tally[NOT_PRIME])?;
+    print!(rt; "{} refused 3, ", tally[NOT_A_SYMBOL])?;
+    print!(rt; "{} refused 8, ", tally[UNKNOWN_NUMBER])?;
+    print!(rt; "{} refused 6, ", tally[NOT_ZERO_SUM])?;
+    print!(rt; "{} refused 7, ", tally[LEAKS])?;
+    print!(rt; "{} refused 19 (no coalition), ", tally[JOINT_LEAKS])?;
+    print!(rt; "{} refused 19 (a coalition), ", tally[WITH_COALITION])?;
+    println!(rt; "{} differ", tally[DIFFER])
 }
 
-fn write_line(tally: &[usize; PLACES]) {
-    io::write_all(STDOUT_FILENO, b"joint pairs: ");
-    write_count(tally[ALONE], b" plans without one as before; ");
-    write_count(tally[ACCEPTED], b" accepted, ");
-    write_count(tally[OUT_OF_BOUNDS], b" refused 1, ");
-    write_count(tally[WRONG_LENGTH], b" refused 4, ");
-    write_count(tally[NOT_PRIME], b" refused 2, ");
-    write_count(tally[NOT_A_SYMBOL], b" refused 3, ");
-    write_count(tally[UNKNOWN_NUMBER], b" refused 8, ");
-    write_count(tally[NOT_ZERO_SUM], b" refused 6, ");
-    write_count(tally[LEAKS], b" refused 7, ");
-    write_count(tally[JOINT_LEAKS], b" refused 19 (no coalition), ");
-    write_count(tally[WITH_COALITION], b" refused 19 (a coalition), ");
-    write_count(tally[DIFFER], b" differ\n");
-}
-
-pub fn report(counts: &mut [u8; 65536]) {
+pub fn report(rt: &impl Print, counts: &mut [u8; 65536]) -> io::Result<()> {
     let mut tally = [0usize; PLACES];
     count(cases::TINY_Q2, counts, &mut tally);
     count(cases::TINY_Q3, counts, &mut tally);
     count(cases::SMALL_POOL, counts, &mut tally);
     count(cases::WRONG_INPUTS, counts, &mut tally);
-    write_line(&tally);
+    print_line(rt, &tally)
 }

@@ -1,4 +1,6 @@
 // Holds the vet to a second one that counts views one by one, and writes how many plans got which answer, and how many answers differ.
+#![tactic(auto)]
+
 mod cases;
 mod counting;
 mod expected;
@@ -10,10 +12,10 @@ mod wrong;
 
 use arithmetic::Symbol;
 use cases::Case;
-use libc::STDOUT_FILENO;
 use numbers::{first_of, number_of, pack};
 use plans::Plan;
 use refusals::Verdict;
+use std::io;
 use std::num::wrapping_add_usize;
 use tables::Shape;
 use testing::{narrow, wide16};
@@ -119,49 +121,45 @@ fn count(group: usize, counts: &mut [u8; 65536], tally: &mut [usize; 11], total:
     }
 }
 
-fn write_name(group: usize) -> bool {
+fn name(group: usize) -> &'static str {
     match group {
-        0 => io::write_all(STDOUT_FILENO, b"tiny plans, q 2: "),
-        1 => io::write_all(STDOUT_FILENO, b"tiny plans, q 3: "),
-        2 => io::write_all(STDOUT_FILENO, b"tiny plans, q 5: "),
-        3 => io::write_all(STDOUT_FILENO, b"small pool: "),
-        4 => io::write_all(STDOUT_FILENO, b"wrong inputs: "),
-        _ => io::write_all(STDOUT_FILENO, b"total: "),
+        0 => "tiny plans, q 2",
+        1 => "tiny plans, q 3",
+        2 => "tiny plans, q 5",
+        3 => "small pool",
+        4 => "wrong inputs",
+        _ => "total",
     }
 }
 
-fn write_number(n: usize, end: &[u8]) {
-    io::print_decimal(STDOUT_FILENO, n as u64);
-    io::write_all(STDOUT_FILENO, end);
+fn print_line(rt: &impl Print, group: usize, tally: &[usize; 11]) -> io::Result<()> {
+    print!(rt; "{}: {} accepted, ", name(group), tally[0])?;
+    for number in [1usize, 2, 3, 4, 6] {
+        print!(rt; "{} refused {number}, ", tally[number])?;
+    }
+    print!(rt; "{} refused 7 (relay alone), ", tally[7])?;
+    print!(rt; "{} refused 7 (relay and coalition), ", tally[9])?;
+    println!(rt; "{} refused 7 (server), {} differ", tally[10], tally[8])
 }
 
-fn write_line(group: usize, tally: &[usize; 11]) {
-    write_name(group);
-    write_number(tally[0], b" accepted, ");
-    write_number(tally[1], b" refused 1, ");
-    write_number(tally[2], b" refused 2, ");
-    write_number(tally[3], b" refused 3, ");
-    write_number(tally[4], b" refused 4, ");
-    write_number(tally[6], b" refused 6, ");
-    write_number(tally[7], b" refused 7 (relay alone), ");
-    write_number(tally[9], b" refused 7 (relay and coalition), ");
-    write_number(tally[10], b" refused 7 (server), ");
-    write_number(tally[8], b" differ\n");
-}
-
-fn report(group: usize, counts: &mut [u8; 65536], total: &mut [usize; 11]) {
+fn report(
+    rt: &impl Print,
+    group: usize,
+    counts: &mut [u8; 65536],
+    total: &mut [usize; 11],
+) -> io::Result<()> {
     let mut tally = [0usize; 11];
     count(group, counts, &mut tally, total);
-    write_line(group, &tally);
+    print_line(rt, group, &tally)
 }
 
-fn main() {
-    let mut counts = io::large_buffer();
+fn main(rt: HostRuntime) -> io::Result<()> {
+    let mut counts = [0u8; 65536];
     let mut total = [0usize; 11];
     for group in 0usize..5 {
-        report(group, &mut counts, &mut total);
+        report(&rt, group, &mut counts, &mut total)?;
     }
-    write_line(5, &total);
-    figures::report();
-    joint::report(&mut counts);
+    print_line(&rt, 5, &total)?;
+    figures::report(&rt)?;
+    joint::report(&rt, &mut counts)
 }

@@ -1,4 +1,6 @@
 // The rolling hour: the sum and the largest of the last shown totals.
+#![tactic(auto)]
+
 mod places;
 mod rolling;
 
@@ -6,7 +8,7 @@ use refusals::Verdict;
 pub use rolling::push_total;
 
 // What is kept of a run of totals: how many are asked for, how many are held, those, oldest first, with 0 past them, and their sum.
-#[derive(Drop)]
+#[derive(Clone, Copy)]
 pub struct Window {
     pub span: usize,
     pub held: usize,
@@ -15,14 +17,14 @@ pub struct Window {
 }
 
 // The answer to a step, and the window after it.
-#[derive(Drop)]
+#[derive(Clone, Copy)]
 pub struct Step {
     pub verdict: Verdict,
     pub window: Window,
 }
 
 // The answer to a step on lent totals, and what the window has beside them after it.
-#[derive(Drop)]
+#[derive(Clone, Copy)]
 pub struct Pushed {
     pub verdict: Verdict,
     pub held: usize,
@@ -30,14 +32,14 @@ pub struct Pushed {
 }
 
 // The answer, and the sum, which is 0 where it is refused.
-#[derive(Drop)]
+#[derive(Clone, Copy)]
 pub struct GivenSum {
     pub verdict: Verdict,
     pub value: i64,
 }
 
 // The answer, and the largest, which is 0 where it is refused.
-#[derive(Drop)]
+#[derive(Clone, Copy)]
 pub struct GivenLargest {
     pub verdict: Verdict,
     pub value: i32,

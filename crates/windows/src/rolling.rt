@@ -103,7 +103,7 @@ impl Window {
     pub fn open(span: usize) -> Step
         ensures code { verdict_code result.verdict ≡ open_code span }
         ensures window { result.window ≡ opened_window span }
-        ensures* longest { do ⌜ (← (⟦Window::MAX_SPAN⟧).entry) ≡ max_span ⌝ }
+        ensures longest { Window.MAX_SPAN ≡ max_span }
     {
         if !span_fits(span) {
             return Step {

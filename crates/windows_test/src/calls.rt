@@ -13,7 +13,7 @@ use windows::Window;
 const BAD: usize = 17;
 
 // A window that is handed in, and what it is refused with.
-#[derive(Drop)]
+#[derive(Clone, Copy)]
 struct Judged {
     window: Window,
     number: usize,

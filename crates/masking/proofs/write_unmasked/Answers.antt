@@ -1,0 +1,17 @@
+use mathlib.Core.Path.{refl, ◌∙◌}
+use Rattle.residues.proofs.PrimeLaws.{below_at}
+use Rattle.residues.proofs.SymbolLaws.{symbol-difference}
+use Rattle.lists.proofs.Filling.{filling-none, filling-next}
+use Rattle.masking.proofs.write_unmasked.Goals as goal
+
+pub loop-p-init : goal.loop-p-init
+loop-p-init c = filling-none _ _ 0 refl
+
+pub loop-p-preserved : goal.loop-p-preserved
+loop-p-preserved c =
+    let s = c.loop-p in
+    let a = c.args in
+    filling-next _ _ s.out s.p c.sub_symbols.result s.invariant c.loop-p-test.true
+    (c.sub_symbols.ensures
+    ∙ symbol-difference a.q _ _ (below_at a.q a.upload.now c.requires.0 c.requires.3 s.p)
+    (below_at a.q a.key.now c.requires.0 c.requires.4 s.p))

@@ -1,0 +1,6 @@
+use Rattle.rounds.proofs.ReportedLaws.{full-mask}
+use Rattle.rounds.proofs.Round.is_full.Goals as goal
+
+pub returns : goal.returns
+returns c =
+    full-mask c.args.self.reported c.args.senders c.requires.0 c.requires.1

@@ -1,0 +1,4 @@
+use Rattle.rounds_test.proofs.model.sum.Given as goal
+
+abbrev pub decreases-loop-left : goal.decreases-loop-left
+decreases-loop-left l = l.left

@@ -1,0 +1,11 @@
+use borrow.Author.Tests.{eq-eqb, ne_eqb}
+use Rattle.testing.specs.Numbers.{quotient_of}
+use Rattle.testing.proofs.numbers.quotient.Goals as goal
+
+pub returns-then-n-eq0 : goal.returns-then-n-eq0
+unfolding quotient_of
+returns-then-n-eq0 c = simp (eq-eqb _ _ c.if-n-eq0.true)
+
+pub returns : goal.returns
+unfolding quotient_of
+returns c = simp (ne_eqb _ _ c.if-n-eq0.false)
