@@ -1,2 +1,2 @@
--- The promise of is_prime is is_prime, of residues. Trying is no part of it: what a private function computes.
+-- The promise of the function `is_prime` is `Primes.is_prime`, of residues. Trying is no part of it: what a private function computes.
 pub mod Trying

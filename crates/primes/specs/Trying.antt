@@ -1,4 +1,4 @@
--- What a private function of the test computes. Nothing here has to be believed: proofs tie it to is_prime.
+-- What a private function of the test computes. Nothing here has to be believed: proofs tie it to `Primes.is_prime`, of residues.
 use Rattle.std.specs.Prelude.{ℕ, ◌*◌, ◌%◌, Bool, false, ◌||◌, List, [], ◌∷◌, leb}
 
 -- is q times some number of the first list, modulo 2 ^ 32, at most the number of the second that stands at its place?
