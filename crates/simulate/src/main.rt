@@ -1,14 +1,11 @@
 // Reads a cap, a number of rounds and a plan record on standard input, runs the pool on paper, and prints a line a round.
 #![tactic(auto)]
 
+use console::read_full;
 use refusals::Verdict;
 use simulation::Run;
 use std::io;
-use std::io::Read;
 use texts::Line;
-
-// One byte more than a program takes, so that a longer input is seen.
-const ROOM: u64 = 65536;
 
 fn write_line(rt: &impl Print, line: Line) -> io::Result<()> {
     let text = line.text;
@@ -31,9 +28,10 @@ fn write_rounds(rt: &impl Print, first: Run) -> io::Result<()> {
 }
 
 fn main(rt: HostRuntime) -> io::Result<()> {
-    let mut input = Vec::new(rt.alloc());
-    rt.reader().take(ROOM).read_to_end(&mut input)?;
-    let opened = simulation::open(&input);
+    // One byte more than a program takes, so that a longer input is seen.
+    let mut buffer = [0u8; 65536];
+    let n = read_full(&mut rt.reader(), &mut buffer);
+    let opened = simulation::open(&buffer[..n]);
     if let Verdict::Refused(refusal) = opened.answer {
         return write_line(&rt, simulation::refused_line(Verdict::Refused(refusal)));
     }

@@ -1,16 +1,18 @@
 // Runs each file that its arguments name as the program `simulate` does its input, and writes the file's name and the lines.
 #![tactic(auto)]
 
+use console::read_full;
 use refusals::Verdict;
 use simulation::Run;
+use std::env::{Env, FillError};
 use std::fs::File;
+use std::io;
 use std::io::Read;
 use std::rt::Files;
-use std::{env, io};
 use texts::Line;
 
-// One byte more than a program takes, so that a longer file is seen.
-const ROOM: u64 = 65536;
+// The longest name of a file, in bytes.
+const LONGEST_NAME: usize = 4096;
 
 fn write_line(rt: &impl Print, line: Line) -> io::Result<()> {
     let text = line.text;
@@ -40,20 +42,33 @@ fn run_bytes(rt: &impl Print, bytes: &[u8]) -> io::Result<()> {
     write_rounds(rt, opened.run)
 }
 
-fn run_file<R: Print + Files + Alloc>(rt: &R, name: &str) -> io::Result<()> {
-    println!(rt; "{name}:")?;
+fn run_file<F: Read>(rt: &impl Print, file: &mut F) -> io::Result<()> {
+    // One byte more than a program takes, so that a longer file is seen.
+    let mut buffer = [0u8; 65536];
+    let n = read_full(file, &mut buffer);
+    run_bytes(rt, &buffer[..n])
+}
+
+fn run_name<R: Print + Files>(rt: &R, name: &[u8]) -> io::Result<()> {
+    rt.write_all(name)?;
+    rt.write_all(b":\n")?;
+    if let Ok(path) = str::from_utf8(name) {
+        if let Ok(mut file) = File::open(rt, path) {
+            return run_file(rt, &mut file);
+        }
+    }
     // Without this a missing file would pass for an empty one.
-    let Ok(file) = File::open(rt, name) else {
-        return println!(rt; "no file");
-    };
-    let mut bytes = Vec::new(rt.alloc());
-    file.take(ROOM).read_to_end(&mut bytes)?;
-    run_bytes(rt, &bytes)
+    rt.write_all(b"no file\n")
 }
 
 fn main(rt: HostRuntime) -> io::Result<()> {
-    for name in env::args(&rt)?.skip(1) {
-        run_file(&rt, name.as_str())?;
+    for k in 1..usize::MAX {
+        let mut name = [0u8; LONGEST_NAME];
+        match rt.arg(k, &mut name) {
+            Ok(n) => run_name(&rt, &name[..n])?,
+            Err(FillError::NotPresent) => break,
+            Err(FillError::TooLong) => run_name(&rt, &[])?,
+        }
     }
     Ok(())
 }
