@@ -24,7 +24,7 @@
  *
  * WHAT IT NEEDS. memcpy, memmove and memset, and no other function or library; and stack: 2 KB for a user's calls, 5 KB for
  * a relay's and the server's, 34 KB for those that vet or deal keys, 56 KB for the table maker (c/README.md has each call,
- * measured). It is code for x86-64.
+ * measured with an older kit than today's). It is code for x86-64.
  *
  * SOURCE KEYS. Secrecy is proved for source keys whose symbols are drawn evenly from 0 to q - 1, each with equal chance and
  * apart from all others. Draw them fresh from a good random generator, without the bias that a remainder modulo q leaves,
@@ -39,14 +39,14 @@
  * refuse it: of accepted plans with 16 users that takes 0.01 to 0.3 ms for T up to 2 and 1 to 20 ms for a larger T. The vets
  * themselves walk: some 100 to 150 ms of the largest plans, some 0.15 ms of 16 users with T of 1; so does kortyghai_paper_open.
  * docs/SPEED.md has tables, and kortyghai_count_pairs says beforehand how many pairs of coalition and observer there are.
- * Cyclic networks take tens of microseconds, all other calls a few at most.
+ * Cyclic networks take tens of microseconds, all other calls a few at most. These times are of an older kit than today's.
  *
  * WHAT THE TIME TELLS. In kortyghai_upload, kortyghai_unmask, kortyghai_signed_upload, kortyghai_signed_unmask,
  * kortyghai_show_totals, kortyghai_derive_keys and the counting of frames, no jump, no division and no address depends on a
  * reading, a key, a source symbol or a sum that is accepted; a block that is refused by 15 shows by the time where its first
- * wrong reading stands. This was seen in the machine code of one compiler and is not proved: docs/MACHINE-CODE.md says what
- * was looked at. All other calls are not constant-time, among them kortyghai_network_upload, which is given a reading and
- * a key.
+ * wrong reading stands. This was seen in the machine code of an older kit than today's and is not proved: docs/MACHINE-CODE.md
+ * says what was looked at. All other calls are not constant-time, among them kortyghai_network_upload, which is given a
+ * reading and a key.
  */
 #ifndef KORTYGHAI_H
 #define KORTYGHAI_H
