@@ -216,7 +216,7 @@ pub fn input(cap: u32, count: u32, record: &[u8]) -> Vec<u8> {
 /// What a program writes when it is given the input, and the processor time of it, the system's share included.
 fn run(command: &mut Command, input: &[u8]) -> (Vec<u8>, f64) {
     let before = children_time();
-    let mut child = command.stdin(Stdio::piped()).stdout(Stdio::piped()).spawn().expect("rt check simulate makes the program");
+    let mut child = command.stdin(Stdio::piped()).stdout(Stdio::piped()).spawn().expect("`rt run` in crates/simulate makes the program");
     let mut stdin = child.stdin.take().unwrap();
     let given = input.to_vec();
     // A program that refuses an input may not read all of it.
@@ -246,7 +246,7 @@ fn children_time() -> f64 {
 }
 
 fn proved() -> Command {
-    Command::new(concat!(env!("CARGO_MANIFEST_DIR"), "/../target/bin/simulate"))
+    Command::new(concat!(env!("CARGO_MANIFEST_DIR"), "/../crates/simulate/out/simulate"))
 }
 
 /// This program with the word that makes it print what the proved one prints.
