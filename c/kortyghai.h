@@ -22,9 +22,9 @@
  * between calls and nothing is allocated; calls from several threads at once don't disturb each other as long as none
  * writes to what another has.
  *
- * WHAT IT NEEDS. memcpy, memmove and memset, and no other function or library; and stack: 2 KB for a user's calls, 5 KB for
- * a relay's and the server's, 34 KB for those that vet or deal keys, 56 KB for the table maker (c/README.md has each call,
- * measured with an older kit than today's). It is code for x86-64.
+ * WHAT IT NEEDS. memcpy, memmove and memset, and no other function or library; and stack: 2 KB for a user's calls, 6 KB for
+ * a relay's and the server's, 30 KB for those that vet, 56 KB for those that deal keys or make tables (c/README.md has each
+ * call). It is code for x86-64.
  *
  * SOURCE KEYS. Secrecy is proved for source keys whose symbols are drawn evenly from 0 to q - 1, each with equal chance and
  * apart from all others. Draw them fresh from a good random generator, without the bias that a remainder modulo q leaves,
