@@ -1,27 +1,44 @@
 // What the programs share: bytes read into lent memory.
 #![tactic(auto)]
 
-ghost use Rattle.std.specs.Prelude.{◌≤◌, length, take};
-ghost use Rattle.std.specs.Io.KnownBytes.{Consumes};
+ghost use Rattle.std.specs.Prelude.{◌≡◌, ◌≤◌, ◌<◌, false, length, take};
+ghost use Rattle.std.specs.Io.KnownBytes.{Consumes, IsAtEnd};
 
 use std::io::Read;
 
-// Fills the buffer from its start, to the end of the input or to the first read that fails, and says how many bytes that are.
-pub fn read_full<R: Read>(reader: &mut R, buffer: &mut [u8]) -> usize
-    ensures within { result ≤ length buffer.new }
-    ensures bytes { Consumes (R.remaining reader.old) (R.remaining reader.new) (take result buffer.new) }
+// How many bytes were read, and whether a read that failed ended it.
+#[derive(Clone, Copy)]
+pub struct Filled {
+    pub bytes: usize,
+    pub failed: bool,
+}
+
+// Fills the buffer from its start, to its end, to the end of the input or to the first read that fails.
+pub fn read_full<R: Read>(reader: &mut R, buffer: &mut [u8]) -> Filled
+    ensures within { result.bytes ≤ length buffer.new }
+    ensures bytes { Consumes (R.remaining reader.old) (R.remaining reader.new) (take result.bytes buffer.new) }
+    ensures whole { result.failed ≡ false → result.bytes < length buffer.new → IsAtEnd (R.remaining reader.new) }
 {
     let mut filled = 0;
     while filled < buffer.len() {
         match reader.read(&mut buffer[filled..]) {
-            Ok(n) => {
-                if n == 0 {
-                    break;
-                }
-                filled += n;
+            Ok(0) => {
+                return Filled {
+                    bytes: filled,
+                    failed: false,
+                };
             }
-            Err(_) => break,
+            Ok(n) => filled += n,
+            Err(_) => {
+                return Filled {
+                    bytes: filled,
+                    failed: true,
+                };
+            }
         }
     }
-    filled
+    Filled {
+        bytes: filled,
+        failed: false,
+    }
 }

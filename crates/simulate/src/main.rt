@@ -30,7 +30,7 @@ fn write_rounds(rt: &impl Print, first: Run) -> io::Result<()> {
 fn main(rt: HostRuntime) -> io::Result<()> {
     // One byte more than a program takes, so that a longer input is seen.
     let mut buffer = [0u8; 65536];
-    let n = read_full(&mut rt.reader(), &mut buffer);
+    let n = read_full(&mut rt.reader(), &mut buffer).bytes;
     let opened = simulation::open(&buffer[..n]);
     if let Verdict::Refused(refusal) = opened.answer {
         return write_line(&rt, simulation::refused_line(Verdict::Refused(refusal)));

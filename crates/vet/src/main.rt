@@ -7,7 +7,7 @@ use std::io;
 fn main(rt: HostRuntime) -> io::Result<()> {
     // One byte more than a program takes, so that a longer input is seen.
     let mut buffer = [0u8; 65536];
-    let n = read_full(&mut rt.reader(), &mut buffer);
+    let n = read_full(&mut rt.reader(), &mut buffer).bytes;
     let line = reports::vet_line(&buffer[..n]);
     let text = line.text;
     let end = line.length;

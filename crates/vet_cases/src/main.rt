@@ -21,7 +21,7 @@ fn write_line(rt: &impl Print, bytes: &[u8]) -> io::Result<()> {
 fn vet_file<F: Read>(rt: &impl Print, file: &mut F) -> io::Result<()> {
     // One byte more than a program takes, so that a longer file is seen.
     let mut buffer = [0u8; 65536];
-    let n = read_full(file, &mut buffer);
+    let n = read_full(file, &mut buffer).bytes;
     write_line(rt, &buffer[..n])
 }
 
