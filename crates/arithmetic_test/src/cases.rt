@@ -5,7 +5,7 @@ use arithmetic::Symbol;
 use std::num::wrapping_sub_u32;
 
 // What the functions are given: a modulus, three numbers that may be symbols, an exponent, and what a slice is drawn from.
-#[derive(Clone, Copy)]
+#[derive(Clone, Copy, Debug, PartialEq, Eq)]
 pub struct Case {
     pub q: Symbol,
     pub a: Symbol,
@@ -15,7 +15,7 @@ pub struct Case {
     pub seed: u64,
 }
 
-#[derive(Clone, Copy)]
+#[derive(Clone, Copy, Debug, PartialEq, Eq)]
 pub enum Group {
     BelowSixty,
     Drawn,
@@ -39,9 +39,7 @@ pub const PAIRS: u64 = SINGLES * SMALL_NUMBERS;
 
 pub const TRIPLES: u64 = PAIRS * FIFTHS;
 
-// How many moduli the drawn inputs have in turn, with repeats, and below what a short exponent is.
-const LISTED: u64 = 32;
-
+// Below what a short exponent is.
 const SHORT: u64 = 1000;
 
 // How many inputs of each operation are drawn.
@@ -63,44 +61,25 @@ fn small_case(k: u64, seed: u64) -> Case {
         b: low32(k / SINGLES % SMALL_NUMBERS),
         m: low32(k / PAIRS * FIFTH % SMALL_NUMBERS),
         exponent: low32(k / SINGLES % SMALL_NUMBERS),
-        seed: seed,
+        seed,
     }
 }
 
 // The largest primes of 32 and of 16 bits most often, and those next to 2^31 and 2^16; non-primes near them, three squares of odd numbers among them; and the
 // smallest moduli.
+static LISTED: [Symbol; 32] = [
+    4294967291, 4294967291, 4294967291, 4294967291, 4294967279, 4294967279, 4294967279, 4294967231,
+    4294967231, 2147483659, 2147483647, 65537, 65537, 65521, 65521, 65521, 65519, 65519,
+    4294967295, 4294967294, 4294967293, 4294836225, 4292870399, 65536, 65535, 65533, 65025, 63001,
+    257, 2, 1, 0,
+];
+
 fn modulus(k: u64) -> Symbol {
-    match k % LISTED {
-        0 | 1 | 2 | 3 => 4294967291,
-        4 | 5 | 6 => 4294967279,
-        7 | 8 => 4294967231,
-        9 => 2147483659,
-        10 => 2147483647,
-        11 | 12 => 65537,
-        13 | 14 | 15 => 65521,
-        16 | 17 => 65519,
-        18 => 4294967295,
-        19 => 4294967294,
-        20 => 4294967293,
-        21 => 4294836225,
-        22 => 4292870399,
-        23 => 65536,
-        24 => 65535,
-        25 => 65533,
-        26 => 65025,
-        27 => 63001,
-        28 => 257,
-        29 => 2,
-        30 => 1,
-        _ => 0,
-    }
+    LISTED[(k % 32) as usize]
 }
 
 pub fn below(q: Symbol, n: Symbol) -> Symbol {
-    if q == 0 {
-        return n;
-    }
-    n % q
+    if q == 0 { n } else { n % q }
 }
 
 // Often a number at an edge, sometimes any number of 32 bits, else a number below q.
@@ -138,12 +117,12 @@ fn drawn_case(q: Symbol, seed: u64) -> Case {
     let y = two_steps(x);
     let z = two_steps(y);
     Case {
-        q: q,
+        q,
         a: symbol(q, x),
         b: symbol(q, y),
         m: symbol(q, z),
         exponent: exponent(two_steps(z)),
-        seed: seed,
+        seed,
     }
 }
 
@@ -155,12 +134,12 @@ pub fn next_seed(x: u64) -> u64 {
 // Every number of 16 bits, those near the notable ones, and drawn ones of 32 bits. The first states of near numbers are near each other, hence the steps.
 fn every_modulus(k: u64) -> Symbol {
     if k < OF_16_BITS {
-        return low32(k);
+        low32(k)
+    } else if k < OF_16_BITS + NEAR {
+        near_notable(k - OF_16_BITS)
+    } else {
+        low32(two_steps(step(k)))
     }
-    if k < OF_16_BITS + NEAR {
-        return near_notable(k - OF_16_BITS);
-    }
-    low32(two_steps(step(k)))
 }
 
 // The numbers of all refusals in turn: 1 to 23.

@@ -1,7 +1,7 @@
 // The catalogue of refusals: made from their numbers, and read back.
 use crate::cases::Case;
 use crate::numbers::{OF_16_BITS, OF_32_BITS, low16};
-use refusals::{Code, Refusal, Verdict};
+use refusals::{Code, Refusal, Step, code_of_result, refuse_unless};
 
 // A code as one number, which is above all of 32 bits.
 pub fn pack(number: u16, first: u16, second: u16) -> u64 {
@@ -61,9 +61,22 @@ fn case_code(c: Case) -> u64 {
 }
 
 pub fn refusal_agrees(c: Case) -> bool {
-    packed(refusals::code_of(case_refusal(c))) == case_code(c)
+    let refusal = case_refusal(c);
+    let (first, second) = refusal.details();
+    packed(refusal.code()) == case_code(c) && pack(refusal.number(), first, second) == case_code(c)
 }
 
-pub fn verdict_agrees(c: Case) -> bool {
-    packed(refusals::verdict_code(Verdict::Refused(case_refusal(c)))) == case_code(c)
+pub fn result_agrees(c: Case) -> bool {
+    let refused = refuse_unless(false, case_refusal(c));
+    packed(code_of_result(&refused)) == case_code(c)
+}
+
+// Steps that were made and refused, with the case's first number as the state.
+pub fn step_agrees(c: Case) -> bool {
+    let made = Step::made(c.a);
+    let refused = Step::refused(case_refusal(c), c.a);
+    packed(code_of_result(&made.answer)) == pack(0, 0, 0)
+        && packed(code_of_result(&refused.answer)) == case_code(c)
+        && made.state == c.a
+        && refused.state == c.a
 }

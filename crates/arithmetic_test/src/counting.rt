@@ -52,6 +52,7 @@ fn by_doubling(q: u64, start: u64, step: u64, times: u64) -> u64 {
     let mut n = start;
     let mut double = step;
     let mut left = times;
+    // a while: each step halves what is left
     while 0 < left {
         if left % 2 == 1 {
             n = plus(q, n, double);
@@ -91,6 +92,7 @@ pub fn power(q: u64, a: u64, exponent: u64) -> u64 {
     }
     let mut n = one(q);
     let mut place = HIGHEST;
+    // a while: each step takes a digit off the place
     while 0 < place {
         let shifted = multiply_often(q, n, n, MANY - 1);
         n = multiply_often(q, shifted, a, exponent / place % MANY);

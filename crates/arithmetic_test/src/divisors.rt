@@ -15,19 +15,15 @@ pub type Divisors = [u8; LENGTH];
 fn count_multiples(divisors: &mut Divisors, d: usize)
     requires { (0 < d) × (d < 65536) }
 {
-    let mut multiple = d;
-    while multiple < LENGTH {
+    for multiple in (d..LENGTH).step_by(d) {
         divisors[multiple] = wrapping_add_u8(divisors[multiple], 1);
-        multiple += d;
     }
 }
 
 // Of a table of zeros. The count of 0 stays 0.
 pub fn count_all(divisors: &mut Divisors) {
-    let mut d: usize = 1;
-    while d < LENGTH {
+    for d in 1..LENGTH {
         count_multiples(divisors, d);
-        d += 1;
     }
 }
 
@@ -39,12 +35,10 @@ fn least_divisor(n: u64) -> u64
     if n % 2 == 0 {
         return 2;
     }
-    let mut d: u64 = 3;
-    while d < OF_16_BITS {
+    for d in (3..OF_16_BITS).step_by(2) {
         if n % d == 0 {
             return d;
         }
-        d += 2;
     }
     n
 }
@@ -53,10 +47,10 @@ fn least_divisor(n: u64) -> u64
 pub fn has_two(divisors: &Divisors, q: Symbol) -> bool {
     let place = q as usize;
     if place < LENGTH {
-        return divisors[place] == OF_A_PRIME;
+        divisors[place] == OF_A_PRIME
+    } else {
+        least_divisor(q as u64) == q as u64
     }
-    let n = q as u64;
-    least_divisor(n) == n
 }
 
 // How many numbers up to n have no divisor in common with it: for each prime p that divides n, every p-th of those that are left is taken away, once, when p
@@ -64,6 +58,7 @@ pub fn has_two(divisors: &Divisors, q: Symbol) -> bool {
 pub fn coprime(n: u64) -> u64 {
     let mut count = n;
     let mut left = n;
+    // a while: each step divides what is left
     while 1 < left {
         let p = least_divisor(left);
         left = left / p;

@@ -3,8 +3,8 @@ use crate::catalogue::{pack, packed};
 use crate::compare::is_prime;
 use crate::operations::outcome;
 use crate::tally::{Tally, counted, none};
-use arithmetic::{Answer, Symbol, difference, inverse, power, product, sum};
-use refusals::Verdict;
+use arithmetic::{Symbol, difference, inverse, power, product, sum};
+use refusals::{Refusal, code_of_result, refuse_unless};
 
 // What pack makes of 2 and of 3.
 const NOT_PRIME: u64 = 12884901888;
@@ -16,7 +16,7 @@ const PRIME: Symbol = 4294967291;
 
 const LAST: Symbol = 4294967290;
 
-fn holds(tally: Tally, answer: Answer, expected: u64) -> Tally {
+fn holds(tally: Tally, answer: Result<Symbol, Refusal>, expected: u64) -> Tally {
     counted(tally, outcome(answer) == expected)
 }
 
@@ -44,7 +44,7 @@ pub fn powers(tally: Tally) -> Tally {
 pub fn acceptance(tally: Tally) -> Tally {
     counted(
         tally,
-        packed(refusals::verdict_code(Verdict::Accepted)) == pack(0, 0, 0),
+        packed(code_of_result(&refuse_unless(true, Refusal::NotPrime))) == pack(0, 0, 0),
     )
 }
 

@@ -12,7 +12,7 @@ const NEIGHBOURS: u64 = 128;
 // How many inputs these are.
 pub const NEAR: u64 = LENGTH as u64 * NEIGHBOURS;
 
-const NOTABLE: [Symbol; LENGTH] = [
+static NOTABLE: [Symbol; LENGTH] = [
     // Where a width ends: before 0 come the largest numbers.
     0, 65536, 16777216, 2147483648,
     // The squares of 257, 1,093, 1,621, 1,627, 3,511, 46,337, 65,519, 65,521 and 65,535. Those of 1,093 and 3,511 pass at base 2.
@@ -33,7 +33,6 @@ const NOTABLE: [Symbol; LENGTH] = [
 
 // One of them for each k below NEAR.
 pub fn near_notable(k: u64) -> Symbol {
-    let notable = NOTABLE;
     let place = (k / NEIGHBOURS) as usize % LENGTH;
-    low32(wide(notable[place]) % OF_32_BITS + (OF_32_BITS - BEFORE) + k % NEIGHBOURS)
+    low32(wide(NOTABLE[place]) % OF_32_BITS + (OF_32_BITS - BEFORE) + k % NEIGHBOURS)
 }

@@ -6,9 +6,10 @@ use crate::counting::{
 };
 use crate::divisors::{Divisors, has_two};
 use crate::numbers::{LARGEST, wide};
-use arithmetic::{Answer, Symbol};
+use arithmetic::Symbol;
+use refusals::Refusal;
 
-#[derive(Clone, Copy)]
+#[derive(Clone, Copy, Debug, PartialEq, Eq)]
 pub enum Operation {
     Sum,
     Difference,
@@ -63,22 +64,22 @@ fn result(operation: Operation, c: Case) -> Symbol {
 }
 
 // A value as it is, and a refusal as a number above all values.
-pub fn outcome(answer: Answer) -> u64 {
+pub fn outcome(answer: Result<Symbol, Refusal>) -> u64 {
     match answer {
-        Answer::Value(v) => wide(v),
-        Answer::Refused(refusal) => packed(refusals::code_of(refusal)),
+        Ok(v) => wide(v),
+        Err(refusal) => packed(refusal.code()),
     }
 }
 
 // 2 where q is no prime, then 3 where a number is not below q; 0 where nothing is to be refused.
 pub fn refusal_number(divisors: &Divisors, q: Symbol, a: Symbol, b: Symbol) -> u16 {
     if !has_two(divisors, q) {
-        return 2;
+        2
+    } else if q <= a || q <= b {
+        3
+    } else {
+        0
     }
-    if q <= a {
-        return 3;
-    }
-    if q <= b { 3 } else { 0 }
 }
 
 // The second number that is to be below q. 0 has no inverse: it is refused as a number that is never below q.
@@ -90,7 +91,7 @@ fn second_symbol(operation: Operation, c: Case) -> Symbol {
     }
 }
 
-fn answer(operation: Operation, c: Case) -> Answer {
+fn answer(operation: Operation, c: Case) -> Result<Symbol, Refusal> {
     match operation {
         Operation::Sum => arithmetic::sum(c.q, c.a, c.b),
         Operation::Difference => arithmetic::difference(c.q, c.a, c.b),
@@ -112,24 +113,20 @@ fn checked_agrees(divisors: &Divisors, operation: Operation, c: Case, second: u6
 
 // Where both are symbols, what needs no division is what counting gives.
 fn symbols_agree(operation: Operation, c: Case, second: u64) -> bool {
-    if c.q <= c.a || c.q <= c.b {
-        return true;
-    }
-    match operation {
-        Operation::SymbolSum => second == second_result(Operation::Sum, c),
-        _ => second == second_result(Operation::Difference, c),
-    }
+    let counted = match operation {
+        Operation::SymbolSum => Operation::Sum,
+        _ => Operation::Difference,
+    };
+    c.q <= c.a || c.q <= c.b || second == second_result(counted, c)
 }
 
 // The opposite, the product added to a number and the crossing have no form with tests.
 pub fn operation_agrees(divisors: &Divisors, operation: Operation, c: Case) -> bool {
     let second = second_result(operation, c);
-    if wide(result(operation, c)) != second {
-        return false;
-    }
-    match operation {
+    let checked = match operation {
         Operation::Opposite | Operation::MulAdd | Operation::Cross => true,
         Operation::SymbolSum | Operation::SymbolDifference => symbols_agree(operation, c, second),
         _ => checked_agrees(divisors, operation, c, second),
-    }
+    };
+    checked && wide(result(operation, c)) == second
 }

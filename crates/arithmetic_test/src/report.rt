@@ -99,16 +99,24 @@ pub fn failing_tests(rt: &impl Print, t: Tally, divisors: &Divisors) -> io::Resu
 
 pub fn catalogue(rt: &impl Print, t: Tally, divisors: &Divisors) -> io::Result<Tally> {
     let group = Group::EveryRefusal;
-    let codes = line(rt, divisors, "code_of", Subject::CodeOf, group, CODES)?;
-    let verdicts = line(
+    let codes = line(
         rt,
         divisors,
-        "verdict_code",
-        Subject::VerdictCode,
+        "code, number, details",
+        Subject::Codes,
         group,
         CODES,
     )?;
-    Ok(joined(t, joined(codes, verdicts)))
+    let results = line(
+        rt,
+        divisors,
+        "code_of_result, refuse_unless",
+        Subject::CodesOfResults,
+        group,
+        CODES,
+    )?;
+    let steps = line(rt, divisors, "Step", Subject::Steps, group, CODES)?;
+    Ok(joined(t, joined(codes, joined(results, steps))))
 }
 
 // All small inputs, and drawn ones.

@@ -13,7 +13,7 @@ const HALF: u64 = 8;
 
 type Symbols = [Symbol; LENGTH];
 
-#[derive(Clone, Copy)]
+#[derive(Clone, Copy, Debug, PartialEq, Eq)]
 pub enum Place {
     Empty,
     Nowhere,
@@ -25,24 +25,25 @@ pub enum Place {
 // A number below q, in a few cases the last.
 fn drawn(q: Symbol, x: u64) -> Symbol {
     if sixteenth(x) < FEW {
-        return wrapping_sub_u32(q, 1);
+        wrapping_sub_u32(q, 1)
+    } else {
+        below(q, low32(step(x)))
     }
-    below(q, low32(step(x)))
 }
 
 fn fill(symbols: &mut Symbols, q: Symbol, seed: u64) {
     let mut x = seed;
-    for k in 0..LENGTH {
+    for symbol in symbols {
         x = step(x);
-        symbols[k] = drawn(q, x);
+        *symbol = drawn(q, x);
     }
 }
 
 // The second implementation: looks at all of the slice, and counts.
 fn count_not_below(q: Symbol, symbols: &[Symbol]) -> u64 {
     let mut n: u64 = 0;
-    for k in 0..symbols.len() {
-        if q <= symbols[k] {
+    for &symbol in symbols {
+        if q <= symbol {
             n = wrapping_add_u64(n, 1);
         }
     }
@@ -56,11 +57,7 @@ fn slice_agrees(q: Symbol, symbols: &[Symbol], expected: bool) -> bool {
 }
 
 fn front_agrees(q: Symbol, symbols: &[Symbol], n: usize, expected: bool) -> bool {
-    if n <= symbols.len() {
-        slice_agrees(q, &symbols[..n], expected)
-    } else {
-        false
-    }
+    n <= symbols.len() && slice_agrees(q, &symbols[..n], expected)
 }
 
 // An array lent as a slice.

@@ -2,7 +2,7 @@
 use std::io;
 use std::num::wrapping_add_u64;
 
-#[derive(Clone, Copy)]
+#[derive(Clone, Copy, Debug, PartialEq, Eq)]
 pub struct Tally {
     pub cases: u64,
     pub same: u64,
@@ -15,14 +15,15 @@ pub fn none() -> Tally {
 pub fn counted(tally: Tally, same: bool) -> Tally {
     let cases = wrapping_add_u64(tally.cases, 1);
     if same {
-        return Tally {
-            cases: cases,
+        Tally {
+            cases,
             same: wrapping_add_u64(tally.same, 1),
-        };
-    }
-    Tally {
-        cases: cases,
-        same: tally.same,
+        }
+    } else {
+        Tally {
+            cases,
+            same: tally.same,
+        }
     }
 }
 

@@ -2,13 +2,14 @@
 #![tactic(auto)]
 
 ghost use Rattle.std.specs.Prelude.{◌≡◌};
-ghost use Rattle.refusals.specs.Codes.{verdict_code};
+ghost use Rattle.std.specs.Result.{result_unwrap_or};
+ghost use Rattle.refusals.specs.Codes.{code_of_result};
 ghost use Rattle.boundary.specs.Packed.{packed};
 ghost use Rattle.boundary.specs.Counts.{plan_of};
 
 use arithmetic::Symbol;
 use plans::Plan;
-use refusals::{Code, Verdict, verdict_code};
+use refusals::{Code, Refusal, code_of_result};
 
 // How many numbers a plan has beside its key table, and where each stands.
 pub const PLAN_NUMBERS: usize = 5;
@@ -36,10 +37,24 @@ pub fn pack(code: Code) -> u64
 }
 
 // A verdict as one number, which is 0 where nothing is refused.
-pub fn pack_verdict(verdict: Verdict) -> u64
-    ensures { result ≡ packed (verdict_code verdict) }
+pub fn pack_verdict(verdict: Result<(), Refusal>) -> u64
+    ensures { result ≡ packed (code_of_result verdict) }
 {
-    pack(verdict_code(verdict))
+    pack(code_of_result(&verdict))
+}
+
+// The value of a result goes into the lent place, where nothing is refused; the code is answered as one number.
+pub fn hand_over<T: Copy>(answer: Result<T, Refusal>, out: &mut T) -> u64
+    ensures code { result ≡ packed (code_of_result answer) }
+    ensures out { out.new ≡ result_unwrap_or answer out.old }
+{
+    match answer {
+        Ok(value) => {
+            *out = value;
+            0
+        }
+        Err(refusal) => pack(refusal.code()),
+    }
 }
 
 pub fn plan_of(counts: [Symbol; PLAN_NUMBERS]) -> Plan

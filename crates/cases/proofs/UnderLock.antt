@@ -11,10 +11,9 @@ use Rattle.lists.specs.Bits.{has_bit}
 use Rattle.lists.specs.Lists.{tab, join_to, picked}
 use Rattle.lists.specs.Sums.{sum_to, how_many}
 use Rattle.plans.specs.Plans.{plan}
-use Rattle.vetting.specs.declared.Joint.TheVariants.{Relays}
 use Rattle.vetting.specs.Walk.{pairs_with, observers}
 use Rattle.vetting.specs.Vet.{vet_code}
-use Rattle.vetting.specs.Joint.{joint_code}
+use Rattle.vetting.specs.Joint.{relay_pair, joint_code}
 use Rattle.vetting.specs.Walking.{cluster_sum, base_table, members_from, reduced_by, dependent, outsider_mask, tested_mask, joint_mask, first_hit}
 use Rattle.vetting.proofs.VetLaws.{walk_code, joint-found}
 use Rattle.vetting.proofs.JointLaws.{joint-decides}
@@ -30,23 +29,23 @@ unfolding is_prime all_to all_below column_sum sum_to tab pairs_with observers p
     reduced_by outsider_mask tested_mask pivot_of crossed cleared each_row eliminated_from pivots_from
 four-accepts = sym (walk_code (plan 4 1 1 3 5) four refl)
 
-pub first_two : joint_code (plan 4 1 1 3 5) four (Relays 1 2) ≡ accepted
+pub first_two : joint_code (plan 4 1 1 3 5) four (relay_pair 1 2) ≡ accepted
 unfolding is_prime all_to all_below column_sum sum_to tab pairs_with observers picked join_to how_many has_bit first_hit dependent base_table cluster_sum members_from
     reduced_by outsider_mask tested_mask joint_mask pivot_of crossed cleared each_row eliminated_from pivots_from
 first_two =
     sym (joint-found (plan 4 1 1 3 5) four refl 1 2 ∙ joint-decides (plan 4 1 1 3 5) four 1 2 (sym four-accepts) refl)
 
-pub second-and-last : joint_code (plan 4 1 1 3 5) four (Relays 2 4) ≡ accepted
+pub second-and-last : joint_code (plan 4 1 1 3 5) four (relay_pair 2 4) ≡ accepted
 unfolding is_prime all_to all_below column_sum sum_to tab pairs_with observers picked join_to how_many has_bit first_hit dependent base_table cluster_sum members_from
     reduced_by outsider_mask tested_mask joint_mask pivot_of crossed cleared each_row eliminated_from pivots_from
 second-and-last =
     sym (joint-found (plan 4 1 1 3 5) four refl 2 4 ∙ joint-decides (plan 4 1 1 3 5) four 2 4 (sym four-accepts) refl)
 
 -- "A pair that is equal, reversed or outside the plan is 8, before 6."
-pub reversed : joint_code (plan 4 1 1 3 5) four (Relays 2 1) ≡ code 8
+pub reversed : joint_code (plan 4 1 1 3 5) four (relay_pair 2 1) ≡ code 8
 unfolding is_prime all_to all_below
 reversed = refl
 
 -- "With U 2 every pair leaks.": the small pool
-pub small-pool-leaks : joint_code (plan 2 2 1 3 5) rows (Relays 1 2) ≡ record { number = 19; first = 0; second = 0 }
+pub small-pool-leaks : joint_code (plan 2 2 1 3 5) rows (relay_pair 1 2) ≡ record { number = 19; first = 0; second = 0 }
 small-pool-leaks = two-relays (plan 2 2 1 3 5) rows refl (sym accepts)

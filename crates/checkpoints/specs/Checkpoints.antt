@@ -119,6 +119,6 @@ module _ (B : List ℕ) where
     abbrev pub restore_code : Code
     restore_code = first_of restore_checks
 
-    -- the round that is handed back; where refused nothing but zeros, as by an opening
+    -- the round that is restored; nothing but zeros stand for it where that is refused, as for one that is opened
     abbrev pub restored : RelayRound
     restored = if_accepted restore_code round_read (relay_round 0 no_round nothing)

@@ -2,7 +2,8 @@
 #![tactic(auto)]
 
 ghost use Rattle.std.specs.Prelude.{◌≡◌};
-ghost use Rattle.refusals.specs.Codes.{verdict_code};
+ghost use Rattle.std.specs.Result.{result_unwrap_or};
+ghost use Rattle.refusals.specs.Codes.{code_of_result};
 ghost use Rattle.rounds.specs.Rounds.{no_round};
 ghost use Rattle.rounds.specs.Relays.{relay_round, nothing};
 ghost use Rattle.checkpoints.specs.Checkpoints.{save_code, bytes_after, used_after, restore_code, restored};
@@ -10,9 +11,8 @@ ghost use Rattle.checkpoints.specs.Checkpoints.{save_code, bytes_after, used_aft
 mod reading;
 mod writing;
 
-use plans::{Plan, counts_fit, length_fits};
-use refusals::{Refusal, Verdict};
-use rounds::{Held, RelayRound, Round};
+use refusals::Refusal;
+use rounds::RelayRound;
 
 // U, V, the cluster and L, a byte each, come before all else; where each stands.
 const CLUSTERS: usize = 0;
@@ -49,91 +49,24 @@ const FIRST_MARK: u8 = 0x4b;
 
 const LAST_MARK: u8 = 0x52;
 
-// The answer to a saving, and how many bytes of the buffer are used after it.
-#[derive(Clone, Copy)]
-pub struct Saved {
-    pub answer: Verdict,
-    pub used: usize,
-}
-
-// The answer to a restoring, and the round.
-#[derive(Clone, Copy)]
-pub struct Restored {
-    pub answer: Verdict,
-    pub round: RelayRound,
-}
-
-// Saves a round right after the used bytes.
-pub fn save(round: RelayRound, out: &mut [u8], used: usize) -> Saved
-    ensures code { verdict_code result.answer ≡ save_code round out.old used }
+// Saves a round right after the used bytes, and says how many are used then.
+pub fn save(round: RelayRound, out: &mut [u8], used: usize) -> Result<usize, Refusal>
+    ensures code { code_of_result result ≡ save_code round out.old used }
     ensures out { out.new ≡ bytes_after round out.old used }
-    ensures used { result.used ≡ used_after round out.old used }
+    ensures used { result_unwrap_or result used ≡ used_after round out.old used }
 {
-    let answer = writing::check_saving(round, out, used);
-    if !answer.is_accepted() {
-        return Saved { answer, used };
-    }
-    let end = writing::write_save(round, out, used);
-    Saved { answer, used: end }
-}
-
-// What a refused restoring hands back.
-fn nothing_restored(answer: Verdict) -> Restored
-    ensures { (result.answer ≡ answer) × (result.round ≡ relay_round 0 no_round nothing) }
-{
-    let sums = [0; Plan::MAX_LENGTH];
-    let held = [0; Plan::MAX_LENGTH];
-    let round = Round {
-        clusters: 0,
-        size: 0,
-        q: 0,
-        length: 0,
-        number: 0,
-        reported: 0,
-        sums,
-    };
-    let ahead = Held {
-        reported: 0,
-        sums: held,
-    };
-    Restored {
-        answer,
-        round: RelayRound {
-            cluster: 0,
-            round,
-            ahead,
-        },
-    }
+    writing::check_saving(round, out, used)?;
+    Ok(writing::write_save(round, out, used))
 }
 
 // Restores the save that lies so many steps back from the end of the used bytes, 0 for the last.
-pub fn restore(saved: &[u8], steps: usize) -> Restored
-    ensures code { verdict_code result.answer ≡ restore_code saved.now steps }
-    ensures round { result.round ≡ restored saved.now steps }
+pub fn restore(saved: &[u8], steps: usize) -> Result<RelayRound, Refusal>
+    ensures code { code_of_result result ≡ restore_code saved.now steps }
+    ensures round { result_unwrap_or result (relay_round 0 no_round nothing) ≡ restored saved.now steps }
 {
-    let end = reading::end_of(saved, steps);
-    if end == 0 {
-        return nothing_restored(Verdict::Refused(Refusal::BadTrailer));
-    }
-    let start = end - reading::distance_at(saved, end);
-    let length = saved[start + LENGTH] as usize;
-    if !counts_fit(
-        saved[start + CLUSTERS] as usize,
-        saved[start + SIZE] as usize,
-        0,
-    ) {
-        return nothing_restored(Verdict::Refused(Refusal::OutOfBounds));
-    }
-    if !length_fits(length) {
-        return nothing_restored(Verdict::Refused(Refusal::BadBlockLength));
-    }
-    if end - start != writing::size_of(length) {
-        return nothing_restored(Verdict::Refused(Refusal::WrongLength));
-    }
+    let end = reading::end_of(saved, steps)?;
+    reading::check_size(saved, end)?;
     let round = reading::round_at(saved, end);
-    let answer = round.check_state();
-    if !answer.is_accepted() {
-        return nothing_restored(answer);
-    }
-    Restored { answer, round }
+    round.check_state()?;
+    Ok(round)
 }

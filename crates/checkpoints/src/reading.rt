@@ -1,16 +1,20 @@
 // Finding a save from the end of the used bytes, and reading it.
-ghost use Rattle.std.specs.Prelude.{◌≡◌, cond, false, ◌+◌, ◌*◌, ◌≤◌};
+ghost use Rattle.std.specs.Prelude.{◌≡◌, false, not, eqb, ◌+◌, ◌*◌, ◌≤◌, [], ◌∷◌, IfOk};
 ghost use lib.ListN.{length};
-ghost use Rattle.plans.specs.Plans.{max_length};
-ghost use Rattle.checkpoints.specs.Checkpoints.{save_size, distance_at, bad_trailer_at, end_back, bad_way, length_at, sums_at, round_at};
+ghost use Rattle.refusals.specs.Codes.{code, first_of, code_of_result};
+ghost use Rattle.lists.specs.Lists.{at};
+ghost use Rattle.plans.specs.Plans.{counts_fit, length_fits, max_length};
+ghost use Rattle.checkpoints.specs.Checkpoints.{save_size, distance_at, bad_trailer_at, bad_way, last_byte, start_at, length_at, sums_at, round_at};
 
+use crate::writing::size_of;
 use crate::{
     AHEAD, CLUSTER, CLUSTERS, FIRST_MARK, HALF, LAST_MARK, LEAST, LENGTH, NUMBER, PRIME, REPORTED,
     SIZE, SUMS, TRAILER, WORD,
 };
 use arithmetic::Symbol;
 use numerals::{number_at, read_numbers};
-use plans::Plan;
+use plans::{Plan, counts_fit, length_fits};
+use refusals::{Refusal, refuse_unless};
 use rounds::{Held, RelayRound, Round};
 
 // The distance in the trailer of a save that ends here.
@@ -26,41 +30,48 @@ fn bad_trailer_at(bytes: &[u8], end: usize) -> bool
     requires { end ≤ length bytes.now }
     ensures { result ≡ bad_trailer_at bytes.now end }
 {
-    if end < TRAILER {
-        return true;
-    }
-    if bytes[end - 2] != FIRST_MARK {
-        return true;
-    }
-    if bytes[end - 1] != LAST_MARK {
+    if end < TRAILER || bytes[end - 2] != FIRST_MARK || bytes[end - 1] != LAST_MARK {
         return true;
     }
     let distance = distance_at(bytes, end);
-    if distance < LEAST {
-        return true;
-    }
-    end < distance
+    distance < LEAST || end < distance
 }
 
-// Where the save ends that lies so many steps back; 0, where no save ends, if there is none or a save on the way is bad.
-pub(crate) fn end_of(bytes: &[u8], steps: usize) -> usize
-    ensures { result
-        ≡ cond (bad_way bytes.now steps (length bytes.now)) 0
-        (end_back bytes.now steps (length bytes.now)) }
+// Where the save ends that lies so many steps back, if neither it nor a save on the way is bad.
+pub(crate) fn end_of(bytes: &[u8], steps: usize) -> Result<usize, Refusal>
+    ensures code { code_of_result result ≡ first_of ((bad_way bytes.now steps (length bytes.now), code 5) ∷ []) }
+    ensures found { IfOk result (λ e. (e ≡ last_byte bytes.now steps) × (e ≤ length bytes.now) × (bad_trailer_at bytes.now e ≡ false)) }
 {
     let mut end = bytes.len();
-    let mut left = steps;
-    while left > 0 {
+    for _step in 0..steps {
         if bad_trailer_at(bytes, end) {
-            return 0;
+            return Err(Refusal::BadTrailer);
         }
         end -= distance_at(bytes, end);
-        left -= 1;
     }
     if bad_trailer_at(bytes, end) {
-        return 0;
+        return Err(Refusal::BadTrailer);
     }
-    end
+    Ok(end)
+}
+
+// The counts of the save that ends here, and its length, which must be that of its distance: 1, 9, 4.
+pub(crate) fn check_size(bytes: &[u8], end: usize) -> Result<(), Refusal>
+    requires { (end ≤ length bytes.now) × (bad_trailer_at bytes.now end ≡ false) }
+    ensures { code_of_result result ≡ first_of (
+        (not (counts_fit (at bytes.now (start_at bytes.now end)) (at bytes.now (start_at bytes.now end + 1)) 0), code 1)
+        ∷ (not (length_fits (length_at bytes.now end)), code 9)
+        ∷ (not (eqb (distance_at bytes.now end) (save_size (length_at bytes.now end))), code 4)
+        ∷ []) }
+{
+    let distance = distance_at(bytes, end);
+    let start = end - distance;
+    let clusters = bytes[start + CLUSTERS] as usize;
+    let size = bytes[start + SIZE] as usize;
+    let length = bytes[start + LENGTH] as usize;
+    refuse_unless(counts_fit(clusters, size, 0), Refusal::OutOfBounds)?;
+    refuse_unless(length_fits(length), Refusal::BadBlockLength)?;
+    refuse_unless(distance == size_of(length), Refusal::WrongLength)
 }
 
 // A row of sums, 0 past them.

@@ -1,16 +1,15 @@
 // A save's bytes, row after row of numbers of one width.
 ghost use Rattle.std.specs.Prelude.{◌≡◌, ◌++◌, ℕ, ◌+◌, ◌*◌, ◌^◌, ◌≤◌, ◌<◌, length, take, drop};
-ghost use Rattle.refusals.specs.Codes.{accepted, first_of, verdict_code};
+ghost use Rattle.refusals.specs.Codes.{accepted, code_of_result};
 ghost use Rattle.lists.specs.Lists.{at};
 ghost use Rattle.plans.specs.Plans.{max_length};
 ghost use Rattle.numerals.specs.Bytes.{bytes_of_all};
-ghost use Rattle.rounds.specs.Relays.{relay_checks};
 ghost use Rattle.checkpoints.specs.Checkpoints.{save_size, save_of, save_code};
 
 use crate::{FIRST_MARK, HALF, LAST_MARK, LEAST, WORD};
 use arithmetic::Symbol;
 use numerals::write_numbers;
-use refusals::{Refusal, Verdict};
+use refusals::{Refusal, refuse_unless};
 use rounds::RelayRound;
 
 // The bytes of U, of V, of the cluster and of L.
@@ -28,21 +27,15 @@ pub(crate) fn size_of(length: usize) -> usize
 }
 
 // The state's checks, then that of the room after the used bytes.
-pub(crate) fn check_saving(round: RelayRound, out: &[u8], used: usize) -> Verdict
-    ensures { verdict_code result ≡ save_code round out.now used }
+pub(crate) fn check_saving(round: RelayRound, out: &[u8], used: usize) -> Result<(), Refusal>
+    ensures { code_of_result result ≡ save_code round out.now used }
 {
-    let verdict = round.check_state();
-    if !verdict.is_accepted() {
-        return verdict;
-    }
-    if used > out.len() {
-        return Verdict::Refused(Refusal::WrongLength);
-    }
-    let inner = round.round;
-    if out.len() - used < size_of(inner.length) {
-        return Verdict::Refused(Refusal::WrongLength);
-    }
-    verdict
+    round.check_state()?;
+    refuse_unless(used <= out.len(), Refusal::WrongLength)?;
+    refuse_unless(
+        out.len() - used >= size_of(round.round.length),
+        Refusal::WrongLength,
+    )
 }
 
 // Puts numbers at a place, and says the place after them.

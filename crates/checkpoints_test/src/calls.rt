@@ -1,7 +1,7 @@
 // Calls of `save` and of `restore`, each held to the second implementation.
 use crate::states::{DIFFER, number_of, pick};
 use crate::{second, states};
-use checkpoints::{Restored, Saved};
+use refusals::Refusal;
 use rounds::RelayRound;
 use std::num::{wrapping_add_usize, wrapping_sub_usize};
 use testing::{byte_at, clip, fill_bytes, over, put_byte, seed, word_at};
@@ -41,22 +41,27 @@ fn place(x: usize, room: usize, size: usize) -> usize {
 }
 
 // A save into the first n bytes of a buffer.
-fn save_front(out: &mut [u8], n: usize, state: RelayRound, used: usize) -> Saved {
+fn save_front(out: &mut [u8], n: usize, state: RelayRound, used: usize) -> Result<usize, Refusal> {
     let room = clip(n, out.len());
     checkpoints::save(state, &mut out[..room], used)
 }
 
-fn save_into(out: &mut [u8; BUFFER], n: usize, state: RelayRound, used: usize) -> Saved {
+fn save_into(
+    out: &mut [u8; BUFFER],
+    n: usize,
+    state: RelayRound,
+    used: usize,
+) -> Result<usize, Refusal> {
     save_front(out, n, state, used)
 }
 
 // A restoring from the used bytes of a buffer.
-fn restore_front(out: &[u8], used: usize, steps: usize) -> Restored {
+fn restore_front(out: &[u8], used: usize, steps: usize) -> Result<RelayRound, Refusal> {
     let n = clip(used, out.len());
     checkpoints::restore(&out[..n], steps)
 }
 
-pub fn restore_from(out: &[u8; BUFFER], used: usize, steps: usize) -> Restored {
+pub fn restore_from(out: &[u8; BUFFER], used: usize, steps: usize) -> Result<RelayRound, Refusal> {
     restore_front(out, used, steps)
 }
 
@@ -72,18 +77,12 @@ pub fn saved(case: usize) -> usize {
     let size = second::size(length);
     let used = place(x, n, size);
     let answer = save_into(&mut out, n, state, used);
-    let verdict = answer.answer;
-    let after = answer.used;
     let round = state.round;
     let free = used <= n && wrapping_sub_usize(n, used) >= second::size(round.length);
     let first = second::state_number(state);
     let number = over(first > 0, first, over(free, 0, 4));
-    let end = over(
-        number == 0,
-        wrapping_add_usize(used, second::size(round.length)),
-        used,
-    );
-    let good = number_of(verdict) == number && after == end;
+    let end = wrapping_add_usize(used, second::size(round.length));
+    let good = number_of(&answer) == number && answer.unwrap_or(end) == end;
     over(
         good && wrong(&out, &before, state, used, number) == 0,
         number,
@@ -101,8 +100,8 @@ pub fn chain(out: &mut [u8; BUFFER], x: usize, many: usize) -> usize {
     let mut used: usize = 0;
     for i in 0..many {
         let y = seed(wrapping_add_usize(x, i));
-        let answer = checkpoints::save(states::sound(y, chain_length(y, i)), out, used);
-        used = answer.used;
+        let state = states::sound(y, chain_length(y, i));
+        used = checkpoints::save(state, out, used).unwrap_or(used);
     }
     used
 }
@@ -118,16 +117,14 @@ pub fn chained(case: usize) -> usize {
     for i in 0..many {
         let y = seed(wrapping_add_usize(x, i));
         let steps = wrapping_sub_usize(wrapping_sub_usize(many, 1), i);
-        let back = restore_from(&out, used, steps);
-        let verdict = back.answer;
-        let round = back.round;
-        let good = number_of(verdict) == 0
-            && states::alike(round, states::sound(y, chain_length(y, i)));
+        let good = match restore_from(&out, used, steps) {
+            Ok(round) => states::alike(round, states::sound(y, chain_length(y, i))),
+            Err(_) => false,
+        };
         number = over(good, number, DIFFER);
     }
     let beyond = restore_from(&out, used, wrapping_add_usize(many, pick(x, 34, 3)));
-    let verdict = beyond.answer;
-    over(number_of(verdict) == 5, number, DIFFER)
+    over(number_of(&beyond) == 5, number, DIFFER)
 }
 
 // Steps back: few, or more than any buffer has.
@@ -138,21 +135,16 @@ fn steps(x: usize) -> usize {
 // What is restored from a buffer, held to the second implementation.
 fn judged(out: &[u8; BUFFER], used: usize, n: usize) -> usize {
     let back = restore_from(out, used, n);
-    let verdict = back.answer;
-    let round = back.round;
     let number = second::read_number(out, used, n);
-    let e = second::end(out, used, n);
-    let d = word_at(out, wrapping_sub_usize(e, 4));
-    let expected = if number == 0 {
-        second::read(out, wrapping_sub_usize(e, d))
-    } else {
-        nothing()
+    let same = match back {
+        Ok(round) => {
+            let e = second::end(out, used, n);
+            let d = word_at(out, wrapping_sub_usize(e, 4));
+            states::alike(round, second::read(out, wrapping_sub_usize(e, d)))
+        }
+        Err(_) => true,
     };
-    over(
-        number_of(verdict) == number && states::alike(round, expected),
-        number,
-        DIFFER,
-    )
+    over(number_of(&back) == number && same, number, DIFFER)
 }
 
 fn damage(out: &mut [u8; BUFFER], i: usize, x: usize) {
@@ -185,10 +177,4 @@ fn edge_byte(x: usize) -> usize {
         4 => 28,
         _ => pick(x, 43, 256),
     }
-}
-
-// What a refused restoring hands back: a refused opening hands back the same.
-fn nothing() -> RelayRound {
-    let step = RelayRound::open(0, 0, 0, 0, 0, 0);
-    step.round
 }

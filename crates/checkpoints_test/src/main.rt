@@ -8,66 +8,61 @@ mod replays;
 mod second;
 mod states;
 
+use replays::{Repeat, replayed};
 use states::DIFFER;
 use std::io;
-use std::num::wrapping_add_usize;
-use testing::{clip, print_counts, product};
+use testing::report;
 
-// How many kinds of cases there are.
-const KINDS: usize = 6;
-
-// More cases than any kind has, so that no two kinds have one in common.
-const APART: usize = 50000;
-
-// The last is no kind of its own: replays, with a mistake in what is repeated.
-fn outcome(kind: usize, case: usize) -> usize {
-    match kind {
-        0 => calls::saved(case),
-        1 => calls::chained(case),
-        2 => calls::damaged(case),
-        3 => replays::replayed(case, 0),
-        4 => replays::replayed(case, 1),
-        _ => replays::replayed(case, 2),
-    }
+fn saves(rt: &impl Print) -> io::Result<()> {
+    report(rt, "saves: ", "answered", DIFFER, 0..8000, calls::saved)?;
+    report(
+        rt,
+        "one after the other: ",
+        "answered",
+        DIFFER,
+        50000..53000,
+        calls::chained,
+    )?;
+    report(
+        rt,
+        "damaged: ",
+        "answered",
+        DIFFER,
+        100000..120000,
+        calls::damaged,
+    )
 }
 
-fn cases(kind: usize) -> usize {
-    match kind {
-        0 => 8000,
-        1 => 3000,
-        2 => 20000,
-        3 => 3000,
-        4 => 3000,
-        _ => 200,
-    }
+// Of the last, a mistake is in what is repeated.
+fn repeats(rt: &impl Print) -> io::Result<()> {
+    report(
+        rt,
+        "all repeated: ",
+        "answered",
+        DIFFER,
+        150000..153000,
+        |case| { replayed(case, Repeat::All) },
+    )?;
+    report(
+        rt,
+        "changes repeated: ",
+        "answered",
+        DIFFER,
+        200000..203000,
+        |case| { replayed(case, Repeat::Changes) },
+    )?;
+    report(
+        rt,
+        "one change left out: ",
+        "answered",
+        DIFFER,
+        250000..250200,
+        |case| { replayed(case, Repeat::ChangesButFirst) },
+    )
 }
 
-fn name(kind: usize) -> &'static str {
-    match kind {
-        0 => "saves",
-        1 => "one after the other",
-        2 => "damaged",
-        3 => "all repeated",
-        4 => "changes repeated",
-        _ => "one change left out",
-    }
-}
-
-fn report(rt: &impl Print, kind: usize) -> io::Result<()> {
-    let many = cases(kind);
-    let mut tally = [0usize; DIFFER + 1];
-    for case in 0..many {
-        let own = wrapping_add_usize(case, product(kind, APART));
-        let n = clip(outcome(kind, own), DIFFER);
-        tally[n] = wrapping_add_usize(tally[n], 1);
-    }
-    print!(rt; "{}: ", name(kind))?;
-    print_counts(rt, "answered", &tally)
-}
-
+// No two kinds have a case in common. Of the last, a mistake is in what is repeated.
 fn main(rt: HostRuntime) -> io::Result<()> {
-    for kind in 0..KINDS {
-        report(&rt, kind)?;
-    }
-    Ok(())
+    saves(&rt)?;
+    repeats(&rt)
 }

@@ -1,11 +1,20 @@
 // A relay that stops after a save, comes back, and repeats: all that came since, or what changed its round alone.
 use crate::calls::{BUFFER, restore_from};
 use crate::states;
-use crate::states::{DIFFER, number_of, pick};
+use crate::states::{DIFFER, pick};
 use arithmetic::Symbol;
-use rounds::{RelayRound, RelayStep};
+use refusals::{Refusal, Step};
+use rounds::RelayRound;
 use std::num::{wrapping_add_u32, wrapping_add_usize};
 use testing::{clip, fill, narrow, over, prime, residue, seed, wide};
+
+// What a relay that comes back repeats: all, what changed the round alone, or, by a mistake, that without its first event.
+#[derive(Clone, Copy, Debug, PartialEq, Eq)]
+pub enum Repeat {
+    All,
+    Changes,
+    ChangesButFirst,
+}
 
 // A frame with the first symbols of a block.
 fn frame(
@@ -14,13 +23,13 @@ fn frame(
     number: u32,
     block: &[Symbol],
     length: usize,
-) -> RelayStep {
+) -> Step<RelayRound> {
     let n = clip(length, block.len());
     round.count(sender, number, &block[..n])
 }
 
 // A block of symbols, by chance with one too large.
-fn send(round: RelayRound, sender: usize, number: u32, x: usize) -> RelayStep {
+fn send(round: RelayRound, sender: usize, number: u32, x: usize) -> Step<RelayRound> {
     let inner = round.round;
     let mut block = [0; 4];
     fill(
@@ -32,91 +41,88 @@ fn send(round: RelayRound, sender: usize, number: u32, x: usize) -> RelayStep {
 }
 
 // Event i: a moving on, or a frame of the round, of the next, or of another, from some sender.
-fn event(round: RelayRound, x: usize, i: usize) -> RelayStep {
+fn event(round: RelayRound, x: usize, i: usize) -> Step<RelayRound> {
     let y = seed(wrapping_add_usize(x, i));
     let inner = round.round;
-    if pick(y, 1, 4) == 0 {
-        return round.advance();
-    }
     let ahead = narrow(pick(y, 3, 8) / 5);
     let sender = wrapping_add_usize(
         residue(pick(y, 4, 64), inner.size),
         pick(y, 5, 8) % 8 / 7 ^ 1,
     );
-    send(round, sender, wrapping_add_u32(inner.number, ahead), y)
+    if pick(y, 1, 4) == 0 {
+        round.advance()
+    } else {
+        send(round, sender, wrapping_add_u32(inner.number, ahead), y)
+    }
 }
 
 // A relay from an opening: a small cluster, so that rounds become full.
-fn opened(x: usize) -> RelayRound {
-    let step = RelayRound::open(
+fn opened(x: usize) -> Result<RelayRound, Refusal> {
+    RelayRound::open(
         2,
         wrapping_add_usize(pick(x, 51, 3), 1),
         narrow(prime(pick(x, 52, 11))),
         wrapping_add_usize(pick(x, 53, 4), 1),
         1,
         narrow(over(pick(x, 54, 6) == 0, 4294967294, pick(x, 55, 9))),
-    );
-    step.round
+    )
 }
 
 // After events `from` to `to`.
 fn run(start: RelayRound, x: usize, from: usize, to: usize) -> RelayRound {
     let mut round = start;
     for i in from..to {
-        let step = event(round, x, i);
-        round = step.round;
+        round = event(round, x, i).state;
     }
     round
 }
 
-// The same events, but those alone that the relay which never stopped did not refuse; with a mistake not even the first of them.
+// The same events, but those alone that the relay which never stopped did not refuse; where one is left out not even the first of them.
 fn repeated(
     start: RelayRound,
     kept: RelayRound,
     x: usize,
     from: usize,
     to: usize,
-    mistake: usize,
+    first_left_out: bool,
 ) -> RelayRound {
     let mut round = start;
     let mut other = kept;
-    let mut left = mistake;
+    let mut leave_out = first_left_out;
     for i in from..to {
         let there = event(other, x, i);
-        let verdict = there.answer;
-        other = there.round;
-        if number_of(verdict) == 0 {
-            if left == 0 {
-                let step = event(round, x, i);
-                round = step.round;
+        other = there.state;
+        if there.answer.is_ok() {
+            if !leave_out {
+                round = event(round, x, i).state;
             }
-            left = 0;
+            leave_out = false;
         }
     }
     round
 }
 
-// Kind 0 repeats all, 1 what changed the round, 2 that without its first event.
-pub fn replayed(case: usize, kind: usize) -> usize {
+// Whether the relay that comes back ends as the one that never stopped.
+fn ends_alike(case: usize, repeat: Repeat) -> Result<bool, Refusal> {
     let x = seed(case);
     let before = pick(x, 56, 24);
     let to = wrapping_add_usize(before, wrapping_add_usize(pick(x, 57, 24), 1));
-    let kept = run(opened(x), x, 0, before);
+    let kept = run(opened(x)?, x, 0, before);
     let mut out = [0u8; BUFFER];
-    let used = pick(x, 58, 300);
-    let answer = checkpoints::save(kept, &mut out, used);
-    let back = restore_from(&out, answer.used, 0);
-    let verdict = back.answer;
-    let resumed = back.round;
+    let used = checkpoints::save(kept, &mut out, pick(x, 58, 300))?;
+    let resumed = restore_from(&out, used, 0)?;
     let last = run(kept, x, before, to);
-    let again = if kind == 0 {
-        run(resumed, x, before, to)
-    } else {
-        repeated(resumed, kept, x, before, to, kind / 2)
+    let again = match repeat {
+        Repeat::All => run(resumed, x, before, to),
+        Repeat::Changes => repeated(resumed, kept, x, before, to, false),
+        Repeat::ChangesButFirst => repeated(resumed, kept, x, before, to, true),
     };
-    over(
-        number_of(verdict) == 0 && states::alike(last, again),
-        0,
-        DIFFER,
-    )
+    Ok(states::alike(last, again))
+}
+
+pub fn replayed(case: usize, repeat: Repeat) -> usize {
+    match ends_alike(case, repeat) {
+        Ok(same) => over(same, 0, DIFFER),
+        Err(_) => DIFFER,
+    }
 }

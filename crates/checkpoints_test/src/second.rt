@@ -74,6 +74,16 @@ fn head_byte(state: RelayRound, k: usize) -> usize {
     }
 }
 
+// Byte k of a trailer: the bytes of the whole save, and the mark.
+fn trailer_byte(size: usize, k: usize) -> usize {
+    match k {
+        0 => size % 256,
+        1 => size / 256,
+        2 => 75,
+        _ => 82,
+    }
+}
+
 // Byte k of a save.
 pub fn save_byte(state: RelayRound, k: usize) -> usize {
     let r = state.round;
@@ -89,13 +99,9 @@ pub fn save_byte(state: RelayRound, k: usize) -> usize {
     }
     let j = wrapping_sub_usize(i, r.length);
     if j < r.length {
-        return digit(at(&held, j), k % 4);
-    }
-    match k % 4 {
-        0 => size(r.length) % 256,
-        1 => size(r.length) / 256,
-        2 => 75,
-        _ => 82,
+        digit(at(&held, j), k % 4)
+    } else {
+        trailer_byte(size(r.length), k % 4)
     }
 }
 

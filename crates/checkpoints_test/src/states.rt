@@ -1,10 +1,10 @@
 // States of a relay, good and broken, and what a comparison says. Every function takes every number, so that a loop that calls it has nothing to show.
 use arithmetic::Symbol;
 use plans::Plan;
-use refusals::Verdict;
+use refusals::Refusal;
 use rounds::{Held, RelayRound, Round};
 use std::num::wrapping_add_usize;
-use testing::{PRIMES, draw, narrow, narrow16, over, power, prime, residue, seed, state};
+use testing::{PRIMES, clip, draw, narrow, narrow16, over, power, prime, residue, seed, state};
 
 // What a comparison says where the two differ; otherwise it says the number that was answered.
 pub const DIFFER: usize = 15;
@@ -15,8 +15,8 @@ pub fn pick(x: usize, k: usize, n: usize) -> usize {
 }
 
 // A number that no answer has where a detail is not 0.
-pub fn number_of(verdict: Verdict) -> usize {
-    let code = refusals::verdict_code(verdict);
+pub fn number_of<T>(answer: &Result<T, Refusal>) -> usize {
+    let code = refusals::code_of_result(answer);
     over(
         (code.first | code.second) == 0,
         code.number as usize,
@@ -25,30 +25,17 @@ pub fn number_of(verdict: Verdict) -> usize {
 }
 
 // U and V as two digits: the largest plans, the smallest, and some between.
+static COUNTS: [usize; 7] = [82, 28, 44, 11, 18, 53, 22];
+
 pub fn counts(n: usize) -> usize {
-    match n {
-        0 => 82,
-        1 => 28,
-        2 => 44,
-        3 => 11,
-        4 => 18,
-        5 => 53,
-        _ => 22,
-    }
+    COUNTS[clip(n, 6)]
 }
 
 // Numbers at the bounds and past them.
+static EDGE: [usize; 8] = [0, 1, 9, 64, 65, 255, 256, 18446744073709551615];
+
 fn edge(n: usize) -> usize {
-    match n {
-        0 => 0,
-        1 => 1,
-        2 => 9,
-        3 => 64,
-        4 => 65,
-        5 => 255,
-        6 => 256,
-        _ => 18446744073709551615,
-    }
+    EDGE[clip(n, 7)]
 }
 
 // Sums below q, 0 past the length.
@@ -132,24 +119,22 @@ fn other(a: &[Symbol; Plan::MAX_LENGTH], b: &[Symbol; Plan::MAX_LENGTH]) -> usiz
     n
 }
 
+// Whether two rounds are for the same, and whether the same have reported to them.
+fn same_head(a: Round, b: Round) -> bool {
+    let counts = a.clusters == b.clusters && a.size == b.size && a.q == b.q;
+    counts && a.length == b.length && a.number == b.number && a.reported == b.reported
+}
+
 // Whether two rounds are the same in everything.
 pub fn alike(a: RelayRound, b: RelayRound) -> bool {
     let r = a.round;
     let s = b.round;
     let h = a.ahead;
     let k = b.ahead;
-    if a.cluster != b.cluster || r.clusters != s.clusters || r.size != s.size || r.q != s.q {
-        return false;
-    }
-    if r.length != s.length || r.number != s.number || r.reported != s.reported {
-        return false;
-    }
-    if h.reported != k.reported {
-        return false;
-    }
     let first = r.sums;
     let second = s.sums;
     let third = h.sums;
     let fourth = k.sums;
-    other(&first, &second) == 0 && other(&third, &fourth) == 0
+    let heads = a.cluster == b.cluster && same_head(r, s) && h.reported == k.reported;
+    heads && other(&first, &second) == 0 && other(&third, &fourth) == 0
 }

@@ -7,7 +7,7 @@ ghost use Rattle.std.specs.Io.KnownBytes.{Consumes, IsAtEnd};
 use std::io::Read;
 
 // How many bytes were read, and whether a read that failed ended it.
-#[derive(Clone, Copy)]
+#[derive(Clone, Copy, Debug, PartialEq, Eq)]
 pub struct Filled {
     pub bytes: usize,
     pub failed: bool,
@@ -20,6 +20,7 @@ pub fn read_full<R: Read>(reader: &mut R, buffer: &mut [u8]) -> Filled
     ensures whole { result.failed ≡ false → result.bytes < length buffer.new → IsAtEnd (R.remaining reader.new) }
 {
     let mut filled = 0;
+    // a while: each read says how many bytes it gave
     while filled < buffer.len() {
         match reader.read(&mut buffer[filled..]) {
             Ok(0) => {

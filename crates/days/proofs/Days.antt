@@ -21,11 +21,10 @@ use Rattle.secrecy.proofs.LeakTest.{set-places}
 use Rattle.secrecy.proofs.ViewParts.{set-block}
 use Rattle.plans.specs.declared.Plan.{Plan}
 use Rattle.plans.specs.Plans.{users_of}
-use Rattle.vetting.specs.declared.Joint.TheVariants.{Relays}
 use Rattle.vetting.specs.Pools.{pool_of}
 use Rattle.vetting.specs.Walk.{InWalk}
 use Rattle.vetting.specs.Vet.{vet_code}
-use Rattle.vetting.specs.Joint.{joint_code}
+use Rattle.vetting.specs.Joint.{relay_pair, joint_code}
 use Rattle.vetting.proofs.PlanLaws.{vetted}
 use Rattle.vetting.proofs.ExactSecrecy.{accepted-equal-numbers}
 use Rattle.vetting.proofs.JointLaws.{relays-known}
@@ -165,8 +164,8 @@ module _ (P : Plan) (K : List ℕ) where
 
   -- ---- two relays under one lock
 
-  module _ (a b : ℕ) (e : accepted ≡ joint_code P K (Relays a b)) (g : ℕ) (in-plan : g < 2 ^ users_of P) (few : how_many (users_of P) (in_coalition g) ≤ P.limit)
-      (run : Run) (lengths : Lengths run) (first second : List (Entry RelayCall)) where
+  module _ (a b : ℕ) (e : accepted ≡ joint_code P K (relay_pair a b)) (g : ℕ) (in-plan : g < 2 ^ users_of P)
+      (few : how_many (users_of P) (in_coalition g) ≤ P.limit) (run : Run) (lengths : Lengths run) (first second : List (Entry RelayCall)) where
     abbrev both : ℕ → Bool
     both = in_either pool (a - 1) (b - 1)
 
@@ -237,7 +236,8 @@ module _ (P : Plan) (K : List ℕ) where
     -- and of readings as they are signed
     pub signed-joint-equal-days : (m : ℕ) → cap_fits P m ≡ true → (R R' : ℕ → List ℤ) → SignedDaysAgree pool run m (SignedAgree pool g) R R'
         → (test : JointDay pool a b → Bool)
-        → runs_showing pool run (signed_joint_day P K run a b first second g R) test ≡ runs_showing pool run (signed_joint_day P K run a b first second g R') test
+        → runs_showing pool run (signed_joint_day P K run a b first second g R) test
+        ≡ runs_showing pool run (signed_joint_day P K run a b first second g R') test
     signed-joint-equal-days m cap R R' d test =
         let v : accepted ≡ vet_code P K = accepted-vet P K a b e in
         let pos : 0 < P.q = prime-pos (vetted P K v).prime in

@@ -114,7 +114,8 @@ cases q Q base step R R' (inr o) = subst (Q R) (sym o.is) (step R o.sums o.kept)
 
 module _ (P : Pool) (pos : 0 < P.q) where
   abbrev Alright : ServerRound → ServerRound → ServerCall → ServerCall → Type 0
-  Alright R R' c c' = (((server_machine P).reply R c).0 ≡ ((server_machine P).reply R' c').0) × Same P.q ((server_machine P).next R c) ((server_machine P).next R' c')
+  Alright R R' c c' =
+      (((server_machine P).reply R c).0 ≡ ((server_machine P).reply R' c').0) × Same P.q ((server_machine P).next R c) ((server_machine P).next R' c')
 
   server-opened : (t : Bool) (number L : ℕ)
       → Same P.q (server_round (cond t (opened P.clusters P.size P.q L number) no_round))

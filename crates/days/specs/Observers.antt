@@ -46,7 +46,7 @@ module _ (P : Pool) where
   relay_after u R (opens number L) = relay_opened P.clusters P.size P.q L u number
   relay_after u R (event e) = next_of R e
 
-  -- before the first opening it holds what a refused one hands back
+  -- before the first opening it holds what stands for the round of a refused one
   abbrev pub relay_machine : ℕ → Machine
   relay_machine u =
       record {

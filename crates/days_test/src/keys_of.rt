@@ -8,15 +8,15 @@ use arithmetic::Symbol;
 use keys::derive_keys;
 use masking::upload;
 use plans::Plan;
-use refusals::Verdict;
+use refusals::Refusal;
 use rounds::RelayRound;
 use signed::signed_upload;
 use std::num::wrapping_add_usize;
 use testing::{at, clip, mul_add, over, power, product, put, quotient, residue, wide, wide16};
 
-pub fn number_of(answer: Verdict) -> usize {
-    let code = refusals::verdict_code(answer);
-    wide16(code.number)
+// The number that was answered; 0 where nothing is refused.
+pub fn number_of<T>(answer: &Result<T, Refusal>) -> usize {
+    wide16(refusals::code_of_result(answer).number)
 }
 
 pub fn length_of(s: Setup, k: usize) -> usize
@@ -49,8 +49,9 @@ fn derived(
     all: &mut [Symbol],
     keys: &mut [Symbol],
 ) {
-    derive_keys(plan, table, length, source, all);
-    spread(length, k, all, keys);
+    if derive_keys(plan, table, length, source, all).is_ok() {
+        spread(length, k, all, keys);
+    }
 }
 
 // Where the source keys are not apart, the second round begins with the symbols of the first.
@@ -109,7 +110,7 @@ fn send(
     };
     put(sent, place(k, i, 0), wide(out[0]));
     put(sent, place(k, i, 1), wide(out[1]));
-    number_of(answer)
+    number_of(&answer)
 }
 
 // The users' uploads of both rounds; 0 where none is refused.
@@ -128,23 +129,15 @@ pub fn fill_uploads(s: Setup, readings: &[Symbol], keys: &[Symbol], sent: &mut [
 fn relay_sum(s: Setup, k: usize, u: usize, uploads: &[Symbol]) -> [Symbol; 2] {
     let plan = s.plan;
     let n = length_of(s, k);
-    let step = RelayRound::open(
-        plan.clusters,
-        plan.size,
-        plan.q,
-        n,
-        wrapping_add_usize(u, 1),
-        7,
-    );
-    let mut relay = step.round;
-    let users = clip(plan.size, 8);
-    for v in 0..users {
-        let block = pair(uploads, place(k, mul_add(v, u, plan.size), 0));
-        let step = relay.count(wrapping_add_usize(v, 1), 7, &block[..n]);
-        let next = step.round;
-        relay = next;
-    }
     let mut out = [0 as Symbol; 2];
+    let number = wrapping_add_usize(u, 1);
+    let Ok(mut relay) = RelayRound::open(plan.clusters, plan.size, plan.q, n, number, 7) else {
+        return out;
+    };
+    for v in 0..clip(plan.size, 8) {
+        let block = pair(uploads, place(k, mul_add(v, u, plan.size), 0));
+        relay = relay.count(wrapping_add_usize(v, 1), 7, &block[..n]).state;
+    }
     relay.give(&mut out[..n]);
     out
 }

@@ -5,41 +5,43 @@ use crate::numbers::{ANSWERS, CALLS, pick, place};
 use crate::readings::pair;
 use crate::shapes::Setup;
 use arithmetic::Symbol;
-use refusals::Verdict;
+use refusals::Refusal;
 use rounds::{RelayRound, ServerRound};
 use std::num::{wrapping_add_usize, wrapping_sub_usize};
 use testing::{clip, mul_add, narrow, over, product, put, wide};
 
-const OPENING: usize = 0;
-
-const MOVE: usize = 1;
-
-const SUMS: usize = 2;
-
-const FRAME: usize = 3;
+// What is called. A server does not move on.
+#[derive(Clone, Copy, Debug, PartialEq, Eq)]
+enum What {
+    Opening,
+    Move,
+    Sums,
+    Frame,
+}
 
 // What a lent buffer holds before a call: no symbol.
 const UNTOUCHED: Symbol = 9;
 
 // Call c of the schedule: what it is, for which round, from which sender, and with which symbols where they are not the sender's own: nobody's frame, or one of
 // an unknown sender.
-#[derive(Clone, Copy)]
+#[derive(Clone, Copy, Debug, PartialEq, Eq)]
 struct Call {
-    what: usize,
+    what: What,
     k: usize,
     sender: usize,
     forged: bool,
     symbols: [Symbol; 2],
 }
 
-fn what(n: usize) -> usize {
-    match n {
-        0 => OPENING,
-        1 | 2 => MOVE,
-        3 | 4 => SUMS,
-        _ => FRAME,
-    }
-}
+// Of 16 calls one is an opening, two move on, two ask for sums, and all others are frames.
+static WHAT: [What; 6] = [
+    What::Opening,
+    What::Move,
+    What::Move,
+    What::Sums,
+    What::Sums,
+    What::Frame,
+];
 
 // A day begins with an opening, and later calls are mostly of the second round.
 fn scheduled(s: Setup, c: usize, first: bool, senders: usize) -> Call {
@@ -50,7 +52,11 @@ fn scheduled(s: Setup, c: usize, first: bool, senders: usize) -> Call {
     let stranger = pick(x, 12, 12) == 0;
     let sender = pick(x, 13, senders);
     Call {
-        what: over(first, OPENING, what(pick(x, 10, 16))),
+        what: if first {
+            What::Opening
+        } else {
+            WHAT[clip(pick(x, 10, 16), 5)]
+        },
         k: over(late, 1, 0),
         sender: wrapping_add_usize(over(stranger, senders, sender), 1),
         forged: stranger || pick(x, 14, 12) == 0,
@@ -66,8 +72,8 @@ fn number(k: usize) -> u32 {
 }
 
 // The answer stands among the first places of a row, the symbols of a frame or of the lent buffer behind all answers.
-fn note(row: &mut [Symbol], c: usize, answer: Verdict, symbols: [Symbol; 2]) {
-    put(row, c, number_of(answer));
+fn note(row: &mut [Symbol], c: usize, answer: usize, symbols: [Symbol; 2]) {
+    put(row, c, answer);
     put(row, mul_add(ANSWERS, c, 2), wide(symbols[0]));
     put(row, mul_add(ANSWERS + 1, c, 2), wide(symbols[1]));
 }
@@ -75,9 +81,10 @@ fn note(row: &mut [Symbol], c: usize, answer: Verdict, symbols: [Symbol; 2]) {
 // The block of a frame: what its sender sends, user or relay i.
 fn block(call: Call, i: usize, sent: &[Symbol]) -> [Symbol; 2] {
     if call.forged {
-        return call.symbols;
+        call.symbols
+    } else {
+        pair(sent, place(call.k, i, 0))
     }
-    pair(sent, place(call.k, i, 0))
 }
 
 // A relay's user, from 1, is one of all users.
@@ -96,18 +103,29 @@ fn relay_hears(
     let i = wrapping_add_usize(before, wrapping_sub_usize(call.sender, 1));
     let symbols = block(call, i, sent);
     let step = relay.count(call.sender, number(call.k), &symbols[..n]);
-    let answer = step.answer;
-    note(row, c, answer, symbols);
-    step.round
+    note(row, c, number_of(&step.answer), symbols);
+    step.state
 }
 
 fn relay_gives(relay: RelayRound, c: usize, n: usize, row: &mut [Symbol]) -> RelayRound {
     let mut out = [UNTOUCHED; 2];
     let m = clip(n, 2);
     let step = relay.give(&mut out[..m]);
-    let answer = step.answer;
-    note(row, c, answer, out);
-    step.round
+    note(row, c, number_of(&step.answer), out);
+    step.state
+}
+
+// The round that a call opens for relay u.
+fn open_relay(s: Setup, u: usize, call: Call) -> Result<RelayRound, Refusal> {
+    let plan = s.plan;
+    let n = length_of(s, call.k);
+    RelayRound::open(plan.clusters, plan.size, plan.q, n, u, number(call.k))
+}
+
+fn open_server(s: Setup, call: Call) -> Result<ServerRound, Refusal> {
+    let plan = s.plan;
+    let n = length_of(s, call.k);
+    ServerRound::open(plan.clusters, plan.size, plan.q, n, number(call.k))
 }
 
 fn relay_turn(
@@ -119,23 +137,20 @@ fn relay_turn(
     sent: &[Symbol],
     row: &mut [Symbol],
 ) -> RelayRound {
-    let plan = s.plan;
-    let n = length_of(s, call.k);
-    let what = call.what;
-    if what == FRAME {
-        return relay_hears(relay, s, u, call, c, sent, row);
+    match call.what {
+        What::Frame => relay_hears(relay, s, u, call, c, sent, row),
+        What::Sums => relay_gives(relay, c, length_of(s, call.k), row),
+        What::Move => {
+            let step = relay.advance();
+            note(row, c, number_of(&step.answer), [0, 0]);
+            step.state
+        }
+        What::Opening => {
+            let opened = open_relay(s, u, call);
+            note(row, c, number_of(&opened), [0, 0]);
+            opened.unwrap_or(relay)
+        }
     }
-    if what == SUMS {
-        return relay_gives(relay, c, n, row);
-    }
-    let step = if what == MOVE {
-        relay.advance()
-    } else {
-        RelayRound::open(plan.clusters, plan.size, plan.q, n, u, number(call.k))
-    };
-    let answer = step.answer;
-    note(row, c, answer, [0, 0]);
-    step.round
 }
 
 fn server_hears(
@@ -149,18 +164,16 @@ fn server_hears(
     let n = length_of(s, call.k);
     let symbols = block(call, wrapping_sub_usize(call.sender, 1), sent);
     let step = server.count(call.sender, number(call.k), &symbols[..n]);
-    let answer = step.answer;
-    note(row, c, answer, symbols);
-    step.round
+    note(row, c, number_of(&step.answer), symbols);
+    step.state
 }
 
 fn server_gives(server: ServerRound, c: usize, n: usize, row: &mut [Symbol]) -> ServerRound {
     let mut out = [UNTOUCHED; 2];
     let m = clip(n, 2);
     let step = server.give(&mut out[..m]);
-    let answer = step.answer;
-    note(row, c, answer, out);
-    step.round
+    note(row, c, number_of(&step.answer), out);
+    step.state
 }
 
 // The server does not move on: it is asked for its sums instead.
@@ -172,38 +185,41 @@ fn server_turn(
     sent: &[Symbol],
     row: &mut [Symbol],
 ) -> ServerRound {
-    let plan = s.plan;
-    let n = length_of(s, call.k);
-    let what = call.what;
-    if what == FRAME {
-        return server_hears(server, s, call, c, sent, row);
+    match call.what {
+        What::Frame => server_hears(server, s, call, c, sent, row),
+        What::Sums | What::Move => server_gives(server, c, length_of(s, call.k), row),
+        What::Opening => {
+            let opened = open_server(s, call);
+            note(row, c, number_of(&opened), [0, 0]);
+            opened.unwrap_or(server)
+        }
     }
-    if what != OPENING {
-        return server_gives(server, c, n, row);
-    }
-    let step = ServerRound::open(plan.clusters, plan.size, plan.q, n, number(call.k));
-    let answer = step.answer;
-    note(row, c, answer, [0, 0]);
-    step.round
 }
 
-// The day of relay u, from 1; its calls are noted from a place on.
+// The day of relay u, from 1; its calls are noted from a place on. It begins with an opening, and nothing comes after one that is refused.
 pub fn relay_day(s: Setup, u: usize, from: usize, sent: &[Symbol], row: &mut [Symbol]) {
     let plan = s.plan;
-    let none = RelayRound::open(0, 0, 0, 0, 0, 0);
-    let mut relay = none.round;
-    for c in 0..CALLS {
-        let call = scheduled(s, wrapping_add_usize(from, c), c == 0, plan.size);
-        relay = relay_turn(relay, s, u, call, wrapping_add_usize(from, c), sent, row);
+    let opened = open_relay(s, u, scheduled(s, from, true, plan.size));
+    note(row, from, number_of(&opened), [0, 0]);
+    let Ok(mut relay) = opened else {
+        return;
+    };
+    for n in 1..CALLS {
+        let c = wrapping_add_usize(from, n);
+        let call = scheduled(s, c, false, plan.size);
+        relay = relay_turn(relay, s, u, call, c, sent, row);
     }
 }
 
 pub fn server_day(s: Setup, sent: &[Symbol], row: &mut [Symbol]) {
     let plan = s.plan;
-    let none = ServerRound::open(0, 0, 0, 0, 0);
-    let mut server = none.round;
-    for c in 0..CALLS {
-        let call = scheduled(s, c, c == 0, plan.clusters);
+    let opened = open_server(s, scheduled(s, 0, true, plan.clusters));
+    note(row, 0, number_of(&opened), [0, 0]);
+    let Ok(mut server) = opened else {
+        return;
+    };
+    for c in 1..CALLS {
+        let call = scheduled(s, c, false, plan.clusters);
         server = server_turn(server, s, call, c, sent, row);
     }
 }

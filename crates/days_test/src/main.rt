@@ -13,6 +13,7 @@ mod shapes;
 
 use numbers::{ALIKE, APART, REFUSED, VARY};
 use rows::judged;
+use shapes::Kind;
 use std::io;
 use std::num::wrapping_add_usize;
 use testing::clip;
@@ -20,7 +21,7 @@ use testing::clip;
 // How many cases each kind has.
 const CASES: usize = 120;
 
-fn report(rt: &impl Print, name: &str, kind: usize) -> io::Result<()> {
+fn report(rt: &impl Print, name: &str, kind: Kind) -> io::Result<()> {
     let mut tally = [0usize; 4];
     let mut transcripts: usize = 0;
     for case in 0..CASES {
@@ -41,11 +42,11 @@ fn report(rt: &impl Print, name: &str, kind: usize) -> io::Result<()> {
 }
 
 fn main(rt: HostRuntime) -> io::Result<()> {
-    report(&rt, "relay:                       ", 0)?;
-    report(&rt, "server:                      ", 1)?;
-    report(&rt, "two relays under one lock:   ", 2)?;
-    report(&rt, "signed:                      ", 3)?;
-    report(&rt, "other totals:                ", 4)?;
-    report(&rt, "one source key twice:        ", 5)?;
-    report(&rt, "a coalition above the limit: ", 6)
+    report(&rt, "relay:                       ", Kind::Relay)?;
+    report(&rt, "server:                      ", Kind::Server)?;
+    report(&rt, "two relays under one lock:   ", Kind::UnderLock)?;
+    report(&rt, "signed:                      ", Kind::Signed)?;
+    report(&rt, "other totals:                ", Kind::OtherTotals)?;
+    report(&rt, "one source key twice:        ", Kind::OneKeyTwice)?;
+    report(&rt, "a coalition above the limit: ", Kind::AboveLimit)
 }

@@ -4,7 +4,7 @@ use crate::numbers::{is_member, place};
 use crate::shapes::Setup;
 use arithmetic::Symbol;
 use std::num::{wrapping_add_usize, wrapping_sub_usize};
-use testing::{at, fill, narrow, over, put, residue, seed, wide};
+use testing::{at, clip, fill, narrow, over, put, residue, seed, wide};
 
 // Signed readings are drawn from 0, 1 and -1.
 fn cap_all(t: &mut [Symbol], q: usize) {
@@ -76,14 +76,10 @@ pub fn fill_second(s: Setup, first: &[Symbol], t: &mut [Symbol]) {
 }
 
 // A symbol of q 5 as a signed reading.
+static SIGNED_OF: [i32; 5] = [0, 1, -3, -2, -1];
+
 pub fn signed_of(a: usize) -> i32 {
-    match a {
-        0 => 0,
-        1 => 1,
-        2 => -3,
-        3 => -2,
-        _ => -1,
-    }
+    SIGNED_OF[clip(a, 4)]
 }
 
 pub fn pair(t: &[Symbol], i: usize) -> [Symbol; 2] {

@@ -3,12 +3,12 @@ use crate::keys_of::{fill_keys, fill_sums, fill_uploads};
 use crate::machines::{relay_day, server_day};
 use crate::numbers::{ALIKE, ANSWERS, APART, CALLS, REFUSED, ROW, RUNS, VARY, is_member};
 use crate::readings::{fill_first, fill_second};
-use crate::shapes::{Setup, set_up};
+use crate::shapes::{Kind, Setup, set_up};
 use arithmetic::Symbol;
 use std::num::wrapping_add_usize;
 use testing::{at, clip, mul_add, over, power, product, put, wide};
 
-#[derive(Clone, Copy)]
+#[derive(Clone, Copy, Debug, PartialEq, Eq)]
 pub struct Seen {
     pub outcome: usize,
     pub transcripts: usize,
@@ -110,13 +110,11 @@ fn compare(rows: &[Symbol], others: &[Symbol], runs: usize) -> Seen {
 }
 
 fn answers_vary(rows: &[Symbol], others: &[Symbol], runs: usize) -> bool {
-    if count_rows(rows, runs, rows, 0, ANSWERS) != runs {
-        return true;
-    }
-    count_rows(others, runs, rows, 0, ANSWERS) != runs
+    count_rows(rows, runs, rows, 0, ANSWERS) != runs
+        || count_rows(others, runs, rows, 0, ANSWERS) != runs
 }
 
-pub fn judged(kind: usize, case: usize) -> Seen {
+pub fn judged(kind: Kind, case: usize) -> Seen {
     let s = set_up(kind, case);
     let plan = s.plan;
     let symbols = product(wrapping_add_usize(s.first, s.second), plan.rate);
@@ -128,16 +126,16 @@ pub fn judged(kind: usize, case: usize) -> Seen {
     let mut rows = [0 as Symbol; 11016];
     let mut others = [0 as Symbol; 11016];
     if fill_rows(s, runs, &first, &second, &mut rows, &mut others) > 0 {
-        return Seen {
+        Seen {
             outcome: REFUSED,
             transcripts: 0,
-        };
-    }
-    if answers_vary(&rows, &others, runs) {
-        return Seen {
+        }
+    } else if answers_vary(&rows, &others, runs) {
+        Seen {
             outcome: VARY,
             transcripts: 0,
-        };
+        }
+    } else {
+        compare(&rows, &others, runs)
     }
-    compare(&rows, &others, runs)
 }

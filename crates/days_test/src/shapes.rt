@@ -3,10 +3,10 @@ use crate::numbers::pick;
 use arithmetic::Symbol;
 use plans::Plan;
 use std::num::{wrapping_add_usize, wrapping_sub_usize};
-use testing::{over, power, product, put, quotient, residue, seed, wide};
+use testing::{clip, over, power, product, put, quotient, residue, seed, wide};
 
 // A pool and its two rounds; who watches (0: the server), with which coalition; and what a kind of case changes.
-#[derive(Clone, Copy)]
+#[derive(Clone, Copy, Debug, PartialEq, Eq)]
 pub struct Setup {
     pub plan: Plan,
     pub first: usize,
@@ -20,32 +20,35 @@ pub struct Setup {
     pub apart: bool,
 }
 
-fn plan_of(clusters: usize, size: usize, limit: usize, rate: usize, q: Symbol) -> Plan {
+// Of two, three and four users: U, V, T and R.
+static COUNTS: [[usize; 4]; 5] = [
+    [2, 1, 0, 1],
+    [3, 1, 1, 2],
+    [2, 2, 1, 3],
+    [4, 1, 1, 3],
+    [2, 1, 0, 1],
+];
+
+static MODULUS: [Symbol; 5] = [3, 2, 2, 2, 5];
+
+fn pool(n: usize) -> Plan {
+    let place = clip(n, 4);
+    let [clusters, size, limit, rate] = COUNTS[place];
     Plan {
         clusters,
         size,
         limit,
         rate,
-        q,
-    }
-}
-
-// Of two, three and four users.
-fn pool(n: usize) -> Plan {
-    match n {
-        0 => plan_of(2, 1, 0, 1, 3),
-        1 => plan_of(3, 1, 1, 2, 2),
-        2 => plan_of(2, 2, 1, 3, 2),
-        3 => plan_of(4, 1, 1, 3, 2),
-        _ => plan_of(2, 1, 0, 1, 5),
+        q: MODULUS[place],
     }
 }
 
 fn entry(plan: Plan, user: usize, column: usize) -> usize {
     if user == plan.rate {
-        return wrapping_sub_usize(wide(plan.q), 1);
+        wrapping_sub_usize(wide(plan.q), 1)
+    } else {
+        over(user == column, 1, 0)
     }
-    over(user == column, 1, 0)
 }
 
 pub fn fill_table(plan: Plan, t: &mut [Symbol]) {
@@ -81,20 +84,47 @@ fn length(n: usize, x: usize, k: usize) -> usize {
     }
 }
 
-fn observer(plan: Plan, x: usize, kind: usize) -> usize {
+// What a kind of cases looks at, or asks beyond what is promised: totals that differ, one source key for both rounds, a coalition above the limit.
+#[derive(Clone, Copy, Debug, PartialEq, Eq)]
+pub enum Kind {
+    Relay,
+    Server,
+    UnderLock,
+    Signed,
+    OtherTotals,
+    OneKeyTwice,
+    AboveLimit,
+}
+
+impl Kind {
+    // No two kinds have a seed in common.
+    fn first_seed(self) -> usize {
+        match self {
+            Kind::Relay => 0,
+            Kind::Server => 1000,
+            Kind::UnderLock => 2000,
+            Kind::Signed => 3000,
+            Kind::OtherTotals => 4000,
+            Kind::OneKeyTwice => 5000,
+            Kind::AboveLimit => 6000,
+        }
+    }
+}
+
+fn observer(plan: Plan, x: usize, kind: Kind) -> usize {
     match kind {
-        0 | 2 => wrapping_add_usize(pick(x, 2, plan.clusters), 1),
-        1 | 4 => 0,
+        Kind::Relay | Kind::UnderLock => wrapping_add_usize(pick(x, 2, plan.clusters), 1),
+        Kind::Server | Kind::OtherTotals => 0,
         _ => pick(x, 2, wrapping_add_usize(plan.clusters, 1)),
     }
 }
 
 // The joint pair has four relays; signed readings need a q that leaves room for a cap.
-pub fn set_up(kind: usize, case: usize) -> Setup {
-    let x = seed(wrapping_add_usize(product(kind, 1000), case));
+pub fn set_up(kind: Kind, case: usize) -> Setup {
+    let x = seed(wrapping_add_usize(kind.first_seed(), case));
     let n = match kind {
-        2 => 3,
-        3 => 4,
+        Kind::UnderLock => 3,
+        Kind::Signed => 4,
         _ => case % 4,
     };
     let plan = pool(n);
@@ -104,11 +134,11 @@ pub fn set_up(kind: usize, case: usize) -> Setup {
         first: length(n, x, 0),
         second: length(n, x, 1),
         observer,
-        other: over(kind == 2, observer % 4 + 1, 0),
-        coalition: coalition(plan, x, over(kind == 6, 1, 0)),
+        other: over(kind == Kind::UnderLock, observer % 4 + 1, 0),
+        coalition: coalition(plan, x, over(kind == Kind::AboveLimit, 1, 0)),
         x,
-        signed: kind == 3,
-        balanced: observer == 0 && kind != 4,
-        apart: kind != 5,
+        signed: kind == Kind::Signed,
+        balanced: observer == 0 && kind != Kind::OtherTotals,
+        apart: kind != Kind::OneKeyTwice,
     }
 }

@@ -4,7 +4,7 @@ use mathlib.Core.Path.{◌∙◌}
 use mathlib.Core.List.{List}
 use Rattle.secrecy.proofs.PairLeaks.{two-clusters-leak}
 use Rattle.plans.specs.declared.Plan.{Plan}
-use Rattle.vetting.specs.declared.Joint.TheVariants.{None, Relays}
+use Rattle.std.specs.Prelude.{Some, None}
 use Rattle.vetting.specs.Pools.{pool_of}
 use Rattle.plans.proofs.PlanBounds.{bounds-known}
 use Rattle.vetting.proofs.VetLaws.{passed}
@@ -23,7 +23,7 @@ module _ (P : Plan) (K : List ℕ) where
 
   pub accepted-alone : AcceptedAlone P K
   accepted-alone None e = let v = e ∙ (joint-none P K).0 in (v, (joint-none P K).1 ∙ accepted-looked P K v)
-  accepted-alone (Relays a b) e = let v = accepted-vet P K a b e in (v, accepted-count P K a b e ∙ accepted-looked P K v)
+  accepted-alone (Some r) e = let v = accepted-vet P K r.first r.second e in (v, accepted-count P K r.first r.second e ∙ accepted-looked P K v)
 
   pub table-first : TableFirst P K
   table-first = table-refuses P K

@@ -22,7 +22,7 @@ use Rattle.secrecy.specs.Leaks.{JointLeak}
 use Rattle.plans.specs.declared.Plan.{Plan}
 use Rattle.plans.specs.Plans.{users_of, length_fits, plan_code}
 use Rattle.vetting.specs.Pools.{pool_of}
-use Rattle.vetting.specs.declared.Joint.TheVariants.{Relays}
+use Rattle.vetting.specs.Joint.{relay_pair}
 use Rattle.vetting.specs.Vet.{other_checks, vet_code}
 use Rattle.vetting.proofs.ExactSecrecy.{Checked, checked, first-map, accepted-checked, accepted-equal-numbers, refused-iff-leaks, refused-names-first}
 use Rattle.keys.specs.Keys.{keys_of}
@@ -172,7 +172,7 @@ module _ (P : Plan) (m : ℕ) (cap : cap_fits P m ≡ true) where
 
     pub signed-joint-hides : SignedJointHides P m cap K a b
     signed-joint-hides e g few L low high R R' in_cap in-cap' agree =
-        let v = (accepted-alone P K (Relays a b) e).0 in
+        let v = (accepted-alone P K (relay_pair a b) e).0 in
         let c = checked P K (accepted-checked P K v) in
         let h = prime-pos c.prime in
         joint-hides P K a b e g few L low high (map (symbol_of P.q) R) (map (symbol_of P.q) R')

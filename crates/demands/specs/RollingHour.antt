@@ -80,13 +80,13 @@ EmptyExactly = (W : Window) → length W.totals ≡ max_span → (largest_code W
 abbrev pub OneWindow : Type 0
 OneWindow = (n n' : ℕ) (run run' : List ℤ) → (window_of n run ≡ window_of n' run') ↔ ((n ≡ n') × (last_of n run ≡ last_of n' run'))
 
--- "a refusal leaves all lent memory and every round state as it found them.": the window that is handed in is handed back, and a refused figure is 0
+-- "a refusal leaves all lent memory and every round state as it found them.": the window that is handed in is handed back, and 0 stands for a refused figure
 abbrev pub RefusedKeeps : Type 0
 RefusedKeeps =
     (W : Window)
     → (window_code W ≡ code 17 → ((t : ℤ) → pushed_window W t ≡ W) × (given_sum W ≡ pos 0))
     × ((largest_code W ≡ code 17) ⊎ (largest_code W ≡ code 12) → given_largest W ≡ pos 0)
 
--- a refused opening hands back nothing but zeros, which no call takes for a window
+-- nothing but zeros stand for the window of a refused opening, and no call takes them for a window
 abbrev pub RefusedOpening : Type 0
 RefusedOpening = (n : ℕ) → open_code n ≡ code 17 → (opened_window n ≡ window_of 0 []) × (window_code (opened_window n) ≡ code 17)

@@ -11,10 +11,9 @@ use Rattle.plans.specs.declared.Plan.{Plan}
 use Rattle.plans.specs.Plans.{users_of, length_fits, plan_code}
 use Rattle.vetting.specs.Pools.{pool_of}
 use Rattle.vetting.specs.declared.Pair.{Pair}
-use Rattle.vetting.specs.declared.Joint.TheVariants.{Relays}
 use Rattle.vetting.specs.Walk.{pairs, InWalk, First}
 use Rattle.vetting.specs.Vet.{other_checks, vet_code}
-use Rattle.vetting.specs.Joint.{relays_fit, joint_code}
+use Rattle.vetting.specs.Joint.{relay_pair, relays_fit, joint_code}
 use Rattle.keys.specs.Keys.{keys_of}
 use Rattle.masking.specs.Blocks.{unmasked_of}
 use Rattle.rounds.specs.Ledger.{Frame}
@@ -158,7 +157,7 @@ module _ (P : Plan) (m : ℕ) (cap : cap_fits P m ≡ true) where
   module _ (K : List ℕ) (a b : ℕ) where
     abbrev pub SignedJointHides : Type 0
     SignedJointHides =
-        accepted ≡ joint_code P K (Relays a b) → (g : ℕ) → Few P K g → (L : ℕ) → 1 ≤ L → L ≤ longest
+        accepted ≡ joint_code P K (relay_pair a b) → (g : ℕ) → Few P K g → (L : ℕ) → 1 ≤ L → L ≤ longest
         → (R R' : List ℤ) → Capped (pool_of P K) m L R → Capped (pool_of P K) m L R' → SignedAgree (pool_of P K) g L R R' → (s : List ℕ)
         → signed_showing (pool_of P K) (set_view (pool_of P K) (in_either (pool_of P K) (a - 1) (b - 1)) g) L R s
         ≡ signed_showing (pool_of P K) (set_view (pool_of P K) (in_either (pool_of P K) (a - 1) (b - 1)) g) L R' s
@@ -166,13 +165,13 @@ module _ (P : Plan) (m : ℕ) (cap : cap_fits P m ≡ true) where
     abbrev pub RefusedIffSignedJointLeaks : Type 0
     RefusedIffSignedJointLeaks =
         accepted ≡ vet_code P K → relays_fit P a b ≡ true
-        → ◌≡◌ {A = ℕ} (joint_code P K (Relays a b)).number 19 ↔ ((g : ℕ) × Few P K g × SignedJointLeak (pool_of P K) m (a - 1) (b - 1) g)
+        → ◌≡◌ {A = ℕ} (joint_code P K (relay_pair a b)).number 19 ↔ ((g : ℕ) × Few P K g × SignedJointLeak (pool_of P K) m (a - 1) (b - 1) g)
 
     abbrev pub NamesLeastSigned : Type 0
     NamesLeastSigned =
-        ◌≡◌ {A = ℕ} (joint_code P K (Relays a b)).number 19
+        ◌≡◌ {A = ℕ} (joint_code P K (relay_pair a b)).number 19
         → (g : ℕ)
-        × (joint_code P K (Relays a b) ≡ record { number = 19; first = g; second = 0 })
+        × (joint_code P K (relay_pair a b) ≡ record { number = 19; first = g; second = 0 })
         × Few P K g
         × SignedJointLeak (pool_of P K) m (a - 1) (b - 1) g
         × ((h : ℕ) → h < g → Few P K h → ¬ (SignedJointLeak (pool_of P K) m (a - 1) (b - 1) h))

@@ -7,11 +7,10 @@ use Rattle.matrices.specs.Linear.{Vector}
 use Rattle.secrecy.specs.Model.{Pool, relay_sum, known, view}
 use Rattle.secrecy.specs.Leaks.{Agree, Agrees}
 use Rattle.plans.specs.declared.Plan.{Plan}
-use Rattle.vetting.specs.declared.Joint.TheVariants.{Relays}
 use Rattle.vetting.specs.Pools.{pool_of}
 use Rattle.vetting.specs.Walk.{InWalk}
 use Rattle.vetting.specs.Vet.{vet_code}
-use Rattle.vetting.specs.Joint.{joint_code}
+use Rattle.vetting.specs.Joint.{relay_pair, joint_code}
 use Rattle.rounds.specs.declared.RelayRound.{RelayRound}
 use Rattle.rounds.specs.declared.ServerRound.{ServerRound}
 use Rattle.rounds.specs.Ledger.{Frame}
@@ -62,7 +61,7 @@ module _ (P : Plan) (K : List ℕ) where
   -- of relays that share a cabinet (Q-9): whoever opens it sees both days; the readings agree on the coalition's members alone
   abbrev pub JointEqualDays : Type 0
   JointEqualDays =
-      (a b : ℕ) → accepted ≡ joint_code P K (Relays a b) → (g : ℕ) → Few P K g
+      (a b : ℕ) → accepted ≡ joint_code P K (relay_pair a b) → (g : ℕ) → Few P K g
       → (run : Run) → Lengths run
       → (first second : List (Entry RelayCall))
       → (W W' : ℕ → List ℕ) → DaysAgree pool run (Agree pool g) W W' → (test : JointDay pool a b → Bool)
@@ -70,7 +69,7 @@ module _ (P : Plan) (K : List ℕ) where
 
   abbrev pub SignedJointEqualDays : Type 0
   SignedJointEqualDays =
-      (m : ℕ) → cap_fits P m ≡ true → (a b : ℕ) → accepted ≡ joint_code P K (Relays a b) → (g : ℕ) → Few P K g
+      (m : ℕ) → cap_fits P m ≡ true → (a b : ℕ) → accepted ≡ joint_code P K (relay_pair a b) → (g : ℕ) → Few P K g
       → (run : Run) → Lengths run
       → (first second : List (Entry RelayCall))
       → (R R' : ℕ → List ℤ) → SignedDaysAgree pool run m (SignedAgree pool g) R R' → (test : JointDay pool a b → Bool)

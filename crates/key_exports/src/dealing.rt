@@ -38,7 +38,6 @@ pub extern "C" fn kortyghai_draw(
     ensures out { out.new ≡ buffer_after stream.now position.old length out.old }
 {
     let drawn = streams::draw_at(stream, *position, length, out);
-    let answer = drawn.answer;
-    *position = drawn.at;
-    pack_verdict(answer)
+    *position = drawn.state;
+    pack_verdict(drawn.answer)
 }

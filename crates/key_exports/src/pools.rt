@@ -6,7 +6,7 @@ ghost use Rattle.boundary.specs.Packed.{packed};
 ghost use Rattle.key_exports.specs.States.{stock_of};
 
 use arithmetic::Symbol;
-use boundary::pack_verdict;
+use boundary::{pack, pack_verdict};
 use stocks::Stock;
 
 // A stock of which nothing is drawn, from one reserve and one limit for each pool, where nothing is refused.
@@ -28,18 +28,15 @@ pub extern "C" fn kortyghai_stock_open(
     ensures drawn { drawn.new ≡ if_accepted (open_code pools shares.now most.now stream.now)
         (opened pools shares.now most.now).drawn drawn.old }
 {
-    let step = Stock::open(pools, shares, most, stream);
-    let answer = step.answer;
-    if answer.is_accepted() {
-        let stock = step.stock;
-        let kept = stock.reserves;
-        let ends = stock.limits;
-        let none = stock.drawn;
-        *reserves = kept;
-        *limits = ends;
-        *drawn = none;
+    match Stock::open(pools, shares, most, stream) {
+        Ok(stock) => {
+            reserves.copy_from_slice(&stock.reserves);
+            limits.copy_from_slice(&stock.limits);
+            drawn.copy_from_slice(&stock.drawn);
+            0
+        }
+        Err(refusal) => pack(refusal.code()),
     }
-    pack_verdict(answer)
 }
 
 // The next symbols of the stream, for a pool.
@@ -61,9 +58,7 @@ pub extern "C" fn kortyghai_stock_draw(
     ensures out { out.new ≡ out_after stream.now
         (stock_of pools reserves.now limits.now drawn.old) (draw_of pool length out.old) }
 {
-    let kept = *reserves;
-    let ends = *limits;
-    let before = *drawn;
+    let (kept, ends, before) = (*reserves, *limits, *drawn);
     let stock = Stock {
         pools,
         reserves: kept,
@@ -71,9 +66,6 @@ pub extern "C" fn kortyghai_stock_draw(
         drawn: before,
     };
     let step = stock.draw(stream, pool, length, out);
-    let answer = step.answer;
-    let next = step.stock;
-    let left = next.drawn;
-    *drawn = left;
-    pack_verdict(answer)
+    drawn.copy_from_slice(&step.state.drawn);
+    pack_verdict(step.answer)
 }

@@ -1,5 +1,6 @@
 -- The sums of a user's row in every position, product by product over all positions at once.
-use Rattle.std.proofs.Common.{◌≡◌, ℕ, ◌+◌, ◌*◌, ◌%◌, ◌<◌, List, take, drop, ap, ◌∙◌, ap₂, mod-lt, arith}
+use Rattle.std.proofs.Common.{◌≡◌, ℕ, zero, suc, ◌∷◌, refl, ◌+◌, ◌*◌, ◌%◌, ◌<◌, List, take, drop, ap, ◌∙◌, ap₂, mod-lt, arith}
+use lib.ListN.{replicate}
 use Rattle.lists.specs.Lists.{at, tab}
 use Rattle.lists.specs.Sums.{sum_to}
 use Rattle.lists.proofs.ListLaws.{at-tab, tab-cong}
@@ -11,9 +12,14 @@ use Rattle.secrecy.specs.Model.{sum_so_far}
 abbrev pub sums : (q : ℕ) (row turned : List ℕ) (L k : ℕ) → List ℕ
 sums q row turned L k = tab L (λ p. sum_so_far q (at row) (λ j. at turned (j * L + p)) k)
 
+zeros : (L : ℕ) → replicate {A = ℕ} L 0 ≡ tab L (λ _. 0)
+unfolding tab
+zeros zero = refl
+zeros (suc n) = ap (λ (l : List ℕ). 0 ∷ l) (zeros n)
+
 module _ (q : ℕ) (row turned : List ℕ) (L : ℕ) where
-  pub sums_none : tab L (λ _. 0) ≡ sums q row turned L 0
-  sums_none = tab-cong L _ _ (λ p _. kept-none q (λ j. at row j * at turned (j * L + p)))
+  pub sums_none : replicate {A = ℕ} L 0 ≡ sums q row turned L 0
+  sums_none = zeros L ∙ tab-cong L _ _ (λ p _. kept-none q (λ j. at row j * at turned (j * L + p)))
 
   module _ (keys : List ℕ) (k : ℕ) (e : keys ≡ sums q row turned L k) where
     held : (p : ℕ) → p < L → at keys p ≡ sum_to k (λ j. at row j * at turned (j * L + p)) % q

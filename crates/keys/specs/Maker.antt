@@ -1,7 +1,7 @@
 -- The table maker (document 01, "Rules from source document 000"). "Maker: 1, 2, 3, 10, 4, 7 (the maker vets its own table)."
 use Rattle.std.specs.Prelude.{ℕ, ◌+◌, ◌-◌, ◌*◌, ◌/◌, ◌%◌, min, max, Bool, cond, not, List, [], ◌∷◌, map, length, ◌==◌, nat_le, nat_lt}
 use Rattle.refusals.specs.declared.Code.{Code}
-use Rattle.refusals.specs.Codes.{code, accepted, code_of, first_of, if_accepted, Outcome}
+use Rattle.refusals.specs.Codes.{code, first_of, if_accepted}
 use Rattle.residues.specs.Primes.{is_prime}
 use Rattle.residues.specs.Field.{power_of, opposite_of}
 use Rattle.lists.specs.Lists.{tab}
@@ -10,8 +10,6 @@ use Rattle.plans.specs.declared.Plan.{Plan}
 use Rattle.plans.specs.Plans.{counts_fit, no_plan}
 use Rattle.vetting.specs.Walk.{pairs}
 use Rattle.vetting.specs.Vet.{leak_check}
-use Rattle.keys.specs.declared.Needed.{Needed}
-use Rattle.keys.specs.declared.Needed.TheVariants.{Rate, Refused}
 
 -- R = max(V + T, min(U + T − 1, U × V − 1))
 abbrev pub rate_of : ℕ → ℕ → ℕ → ℕ
@@ -58,7 +56,3 @@ maker_table u v t q γ out = if_accepted (maker_code u v t q γ out) (made_table
 
 abbrev pub rate_checks : ℕ → ℕ → ℕ → List (Bool × Code)
 rate_checks u v t = (not (counts_fit u v t), code 1) ∷ (nat_le ((u - 1) * v) t, code 10) ∷ []
-
-abbrev pub needed_of : Needed → Outcome
-needed_of (Rate R) = record { refusal = accepted; value = R }
-needed_of (Refused r) = record { refusal = code_of r; value = 0 }

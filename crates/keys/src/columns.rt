@@ -9,10 +9,8 @@ fn fill_column(rate: usize, k: usize, source: &[Symbol], column: &mut [Symbol])
     requires { (k < rate) × (length source.now ≡ length column.old * rate) }
     ensures { column.new ≡ tab (length column.old) (λ p. at source.now (p * rate + k)) }
 {
-    let mut p = 0;
-    while p < column.len() {
+    for p in 0..column.len() {
         column[p] = source[p * rate + k];
-        p += 1;
     }
 }
 
@@ -21,11 +19,8 @@ pub(crate) fn turn(rate: usize, positions: usize, source: &[Symbol], turned: &mu
     requires { (length source.now ≡ positions * rate) × (length turned.old ≡ rate * positions) }
     ensures { turned.new ≡ join_to rate (λ k. tab positions (λ p. at source.now (p * rate + k))) }
 {
-    let mut k = 0;
-    while k < rate {
+    for k in 0..rate {
         let from = k * positions;
-        let to = from + positions;
-        fill_column(rate, k, source, &mut turned[from..to]);
-        k += 1;
+        fill_column(rate, k, source, &mut turned[from..from + positions]);
     }
 }

@@ -1,6 +1,6 @@
 // Individual keys: each user's symbols, from its row of the key table and a source key.
 ghost use Rattle.std.specs.Prelude.{◌≡◌, ℕ, ◌+◌, ◌*◌, ◌<◌, ◌≤◌, true, length};
-ghost use Rattle.refusals.specs.Codes.{first_of, verdict_code};
+ghost use Rattle.refusals.specs.Codes.{first_of, code_of_result};
 ghost use Rattle.lists.specs.Lists.{at, tab, join_to};
 ghost use Rattle.secrecy.specs.Model.{sum_so_far};
 ghost use Rattle.plans.specs.Plans.{users_of, in_bounds};
@@ -11,21 +11,10 @@ use crate::products::{add_products, reciprocal_of};
 use crate::verdict::verdict_on;
 use arithmetic::{Symbol, Wide};
 use plans::{Plan, check_plan, length_fits};
-use refusals::{Refusal, Verdict};
+use refusals::{Refusal, refuse_unless};
 
 // The largest source key.
 const LARGEST: usize = Plan::MAX_RATE * Plan::MAX_LENGTH;
-
-// The sum of no products in every position.
-fn clear(keys: &mut [Symbol])
-    ensures { keys.new ≡ tab (length keys.old) (λ _. 0) }
-{
-    let mut p = 0;
-    while p < keys.len() {
-        keys[p] = 0;
-        p += 1;
-    }
-}
 
 // One product more in every position: from the sums after k products to those after k + 1.
 fn add_product(
@@ -46,8 +35,7 @@ fn add_product(
 {
     let positions = keys.len();
     let from = k * positions;
-    let to = from + positions;
-    add_products(q, reciprocal, row[k], &turned[from..to], keys);
+    add_products(q, reciprocal, row[k], &turned[from..from + positions], keys);
 }
 
 // The keys of the user with this row: its products with the source symbols from the first to the last. What is held in each position is always the sum so far.
@@ -59,11 +47,9 @@ fn user_keys(q: Symbol, reciprocal: Wide, row: &[Symbol], turned: &[Symbol], key
         ≡ tab (length keys.old)
         (λ p. sum_so_far q (at row.now) (λ j. at turned.now (j * length keys.old + p)) (length row.now)) }
 {
-    clear(keys);
-    let mut k = 0;
-    while k < row.len() {
+    keys.fill(0);
+    for k in 0..row.len() {
         add_product(q, reciprocal, row, turned, k, keys);
-        k += 1;
     }
 }
 
@@ -83,18 +69,19 @@ fn users_keys(
         ≡ join_to (users_of plan) (λ i. tab positions (λ p. sum_so_far plan.q (λ k. at table.now (i * plan.rate + k))
         (λ k. at turned.now (k * positions + p)) plan.rate)) }
 {
-    let q = plan.q;
     let users = plan.clusters * plan.size;
     let rate = plan.rate;
-    let reciprocal = reciprocal_of(q);
-    let mut i = 0;
-    while i < users {
-        let b = i * rate;
-        let e = b + rate;
+    let reciprocal = reciprocal_of(plan.q);
+    for i in 0..users {
+        let row = &table[i * rate..i * rate + rate];
         let from = i * positions;
-        let to = from + positions;
-        user_keys(q, reciprocal, &table[b..e], turned, &mut keys[from..to]);
-        i += 1;
+        user_keys(
+            plan.q,
+            reciprocal,
+            row,
+            turned,
+            &mut keys[from..from + positions],
+        );
     }
 }
 
@@ -137,20 +124,23 @@ fn write_keys(
 }
 
 // The blocks of a plan within its bounds: 9, 4, 3.
-fn check_blocks(plan: Plan, length: usize, source: &[Symbol], keys: &[Symbol]) -> Verdict
+fn check_blocks(
+    plan: Plan,
+    length: usize,
+    source: &[Symbol],
+    keys: &[Symbol],
+) -> Result<(), Refusal>
     requires { in_bounds plan ≡ true }
-    ensures { verdict_code result ≡ first_of (block_checks plan length source.now keys.now) }
+    ensures { code_of_result result ≡ first_of (block_checks plan length source.now keys.now) }
 {
-    if !length_fits(length) {
-        return Verdict::Refused(Refusal::BadBlockLength);
-    }
-    if source.len() != length * plan.rate || keys.len() != plan.clusters * plan.size * length {
-        return Verdict::Refused(Refusal::WrongLength);
-    }
-    if !arithmetic::all_below(plan.q, source) {
-        return Verdict::Refused(Refusal::NotASymbol);
-    }
-    Verdict::Accepted
+    refuse_unless(length_fits(length), Refusal::BadBlockLength)?;
+    let symbols = length * plan.rate;
+    let dealt = plan.clusters * plan.size * length;
+    refuse_unless(
+        source.len() == symbols && keys.len() == dealt,
+        Refusal::WrongLength,
+    )?;
+    refuse_unless(arithmetic::all_below(plan.q, source), Refusal::NotASymbol)
 }
 
 // The vet's refusals first, then those of the blocks.
@@ -160,13 +150,10 @@ fn check_keys(
     length: usize,
     source: &[Symbol],
     keys: &[Symbol],
-) -> Verdict
-    ensures { verdict_code result ≡ key_code plan table.now length source.now keys.now }
+) -> Result<(), Refusal>
+    ensures { code_of_result result ≡ key_code plan table.now length source.now keys.now }
 {
-    let vetted = verdict_on(plan, table);
-    if !vetted.is_accepted() {
-        return vetted;
-    }
+    verdict_on(plan, table)?;
     check_blocks(plan, length, source, keys)
 }
 
@@ -177,13 +164,10 @@ fn check_unvetted(
     length: usize,
     source: &[Symbol],
     keys: &[Symbol],
-) -> Verdict
-    ensures { verdict_code result ≡ unvetted_code plan table.now length source.now keys.now }
+) -> Result<(), Refusal>
+    ensures { code_of_result result ≡ unvetted_code plan table.now length source.now keys.now }
 {
-    let checked = check_plan(plan, table);
-    if !checked.is_accepted() {
-        return checked;
-    }
+    check_plan(plan, table)?;
     check_blocks(plan, length, source, keys)
 }
 
@@ -194,15 +178,13 @@ pub fn derive_keys(
     length: usize,
     source: &[Symbol],
     keys: &mut [Symbol],
-) -> Verdict
-    ensures code { verdict_code result ≡ key_code plan table.now length source.now keys.old }
+) -> Result<(), Refusal>
+    ensures code { code_of_result result ≡ key_code plan table.now length source.now keys.old }
     ensures keys { keys.new ≡ keys_after plan table.now length source.now keys.old }
 {
-    let verdict = check_keys(plan, table, length, source, keys);
-    if verdict.is_accepted() {
-        write_keys(plan, table, length, source, keys);
-    }
-    verdict
+    check_keys(plan, table, length, source, keys)?;
+    write_keys(plan, table, length, source, keys);
+    Ok(())
 }
 
 // The same keys without a vet: for a plan that was vetted once and deals many times, or for trials.
@@ -212,13 +194,11 @@ pub fn derive_unvetted(
     length: usize,
     source: &[Symbol],
     keys: &mut [Symbol],
-) -> Verdict
-    ensures code { verdict_code result ≡ unvetted_code plan table.now length source.now keys.old }
+) -> Result<(), Refusal>
+    ensures code { code_of_result result ≡ unvetted_code plan table.now length source.now keys.old }
     ensures keys { keys.new ≡ unvetted_after plan table.now length source.now keys.old }
 {
-    let verdict = check_unvetted(plan, table, length, source, keys);
-    if verdict.is_accepted() {
-        write_keys(plan, table, length, source, keys);
-    }
-    verdict
+    check_unvetted(plan, table, length, source, keys)?;
+    write_keys(plan, table, length, source, keys);
+    Ok(())
 }

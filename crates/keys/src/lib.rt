@@ -11,11 +11,3 @@ mod verdict;
 pub use derive::{derive_keys, derive_unvetted};
 pub use maker::make_table;
 pub use rates::rate_needed;
-use refusals::Refusal;
-
-// The rate that the maker will need.
-#[derive(Clone, Copy)]
-pub enum Needed {
-    Rate(usize),
-    Refused(Refusal),
-}

@@ -104,10 +104,8 @@ pub(crate) fn add_products(
         ≡ tab (length sums.old) (λ p. (at sums.old p + a * at symbols.now p) % q) }
 {
     let w = fraction(q, reciprocal, a);
-    let mut p = 0;
-    while p < sums.len() {
+    for p in 0..sums.len() {
         let more = product(q, a, w, symbols[p]);
         sums[p] = add_to(q, sums[p], more);
-        p += 1;
     }
 }

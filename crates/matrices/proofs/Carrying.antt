@@ -1,11 +1,9 @@
 -- What the loop keeps that carries values, and when nothing is carried.
-use Prim.Native.Nat.{ℕ, ◌+◌, ◌*◌, ◌≤◌, ◌<◌}
+use Prim.Native.Nat.{ℕ, ◌+◌, ◌≤◌, ◌<◌}
 use mathlib.Core.Path.{◌≡◌, refl, sym, ap, ◌∙◌, subst}
 use mathlib.Core.Bool.{Bool, true, false, cond, ◌&&◌}
 use mathlib.Core.List.{List}
-use native.Mathlib.Nat.{mul-le-mul}
 use native.Mathlib.Omega.{arith}
-use lib.Arith.{digits_lt}
 use lib.Dec.{eqb}
 use lib.ListN.{length, set}
 use lib.Seq.{get_or-set_other, set-get_or}
@@ -33,13 +31,6 @@ carrying-next f v₀ v k x c h e =
 pub carrying-past : (f : ℕ → ℕ) (v₀ v : List ℕ) (k : ℕ) → Carrying f v₀ v k → k < length v → at v₀ k ≡ f k → Carrying f v₀ v (k + 1)
 carrying-past f v₀ v k c h e =
     subst (λ (w : List ℕ). Carrying f v₀ w (k + 1)) (set-get_or v k 0) (carrying-next f v₀ v k (at v k) c h (c.rest k (omega arith) ∙ e))
-
--- places of a table
-pub cell-place : (rows cols i p n : ℕ) → i < rows → p < cols → rows * cols ≡ n → i * cols + p < n
-cell-place rows cols i p n h b e = subst (λ (z : ℕ). i * cols + p < z) e (digits_lt h b)
-
-pub cells-few : (rows cols n : ℕ) → rows ≤ 48 → cols ≤ 48 → rows * cols ≡ n → n ≤ 2304
-cells-few rows cols n h b e = subst (λ (z : ℕ). z ≤ 2304) e (mul-le-mul {n₁ = rows} {m₁ = cols} {n₂ = 48} {m₂ = 48} h b)
 
 module _ (q rows cols i : ℕ) (T vs : List ℕ) where
   -- a row that is 0, or a table of another shape

@@ -1,4 +1,3 @@
-pub mod OneRank
 pub mod Notions
 pub mod Vectors
 pub mod Spans

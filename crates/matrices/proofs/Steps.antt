@@ -1,6 +1,6 @@
 -- One step of each loop over a row, over the rows of a table, and over the pivots.
 use mathlib.Core.Path.{◌≡◌, refl, sym, ap, ap₂, ◌∙◌}
-use mathlib.Core.Bool.{Bool, true, false, cond}
+use mathlib.Core.Bool.{Bool, true, false, cond, ◌&&◌}
 use mathlib.Core.List.{List, [], ◌∷◌, ◌++◌, append_assoc, append-nil}
 use Prim.Native.Nat.{ℕ, zero, suc, ◌+◌, ◌-◌, ◌*◌, ◌≤◌, ◌<◌}
 use native.Mathlib.Nat.{mul-le-mul}
@@ -9,17 +9,11 @@ use native.Mathlib.Omega.{arith}
 use lib.Dec.{eqb, ltb}
 use lib.ListN.{length, get_or, take, drop, set, drop_of_length-le, length-append, length-drop, take-append-drop}
 use lib.Seq.{drop-cons, take-suc-set, drop-set-lt, take_all, take_at, drop_at, length-take-le}
-use borrow.Author.Tests.{eq-eqb, ne_eqb, lt-ltb, le-leb}
+use borrow.Author.Tests.{eq-eqb, ne_eqb, lt-ltb, le-ltb, le-leb}
 use Rattle.residues.specs.Field.{cross_of}
-use Rattle.matrices.specs.Tables.{row_of, pivot_of, crossed, cleared, each_row, has_pivot, cleared_by, eliminated_from, reduced_from, pivots_from}
+use Rattle.matrices.specs.Tables.{row_of, shaped, pivot_of, crossed, cleared, each_row, has_pivot, cleared_by, eliminated_from, reduced_from, pivots_from}
 
 -- ---- the next place of a loop over n places
-
-pub within : {k n : ℕ} → k < n → k + 1 ≤ n
-within h = omega arith
-
-pub less-left : {k n : ℕ} → k < n → n - (k + 1) < n - k
-less-left h = omega arith
 
 -- k is a place of another list too, as long as the one that it is a place of
 pub place_of : {k m n : ℕ} → k < m → m ≡ n → k < n
@@ -98,9 +92,6 @@ rest-size rows cols j T h e =
     let k : rows ≡ (rows - j) + j = omega arith in
     omega (arith, length-drop (j * cols) T, ap (λ (x : ℕ). x * cols) k)
 
-pub few-numbers : (rows cols : ℕ) → rows ≤ 48 → cols ≤ 48 → rows * cols ≤ 48 * 48
-few-numbers rows cols h k = mul-le-mul {n₁ = rows} {m₁ = cols} {n₂ = 48} {m₂ = 48} h k
-
 module _ (f : List ℕ → List ℕ) (keeps : (r : List ℕ) → length (f r) ≡ length r) (cols : ℕ) where
   pub length-each_row : (n : ℕ) (T : List ℕ) → n * cols ≡ length T → length (each_row f n cols T) ≡ length T
   unfolding each_row
@@ -147,30 +138,15 @@ module _ (f : List ℕ → List ℕ) (keeps : (r : List ℕ) → length (f r) �
       let z : rows - j ≡ 0 = omega arith in
       sym (take-append-drop (j * cols) T) ∙ ap (λ (n : ℕ). take (j * cols) T ++ each_row f n cols (drop (j * cols) T)) (sym z) ∙ e
 
-pub rows_start : (f : List ℕ → List ℕ) (rows cols : ℕ) (T : List ℕ) → take (0 * cols) T ++ each_row f (rows - 0) cols (drop (0 * cols) T) ≡ each_row f rows cols T
-rows_start f rows cols T =
-    let z : 0 * cols ≡ 0 = omega arith in
-    let w : rows - 0 ≡ rows = omega arith in
-    ap₂ (λ (n m : ℕ). take n T ++ each_row f m cols (drop n T)) z w
-
 -- ---- the end of a table, lent and put back
 
 module _ (b : ℕ) (T : List ℕ) where
   pub rest-whole : take (length T - b) (drop b T) ≡ drop b T
   rest-whole = take_all (length T - b) (drop b T) (omega (arith, length-drop b T))
 
-  pub rest_put : (y z : List ℕ) → y ≡ z → take b T ++ (y ++ drop (length T - b) (drop b T)) ≡ take b T ++ z
-  rest_put y z e =
-      let l : length (drop b T) ≤ length T - b = omega (arith, length-drop b T) in
-      ap₂ (λ (u v : List ℕ). take b T ++ (u ++ v)) e (drop_of_length-le (drop b T) l)
-      ∙ ap (λ (u : List ℕ). take b T ++ u) (append-nil z)
-
 -- ---- a list put in front of another
 
 module _ (A B Z : List ℕ) (m : ℕ) (e : A ≡ B) (l : m ≡ length B) where
-  pub copied-size : m ≤ length Z → length (A ++ drop m Z) ≡ length Z
-  copied-size h = length-append A (drop m Z) ∙ omega (arith, ap length e, length-drop m Z)
-
   pub copied-front : take m (A ++ drop m Z) ≡ B
   copied-front = take_at A (drop m Z) m (ap length e ∙ sym l) ∙ e
 
@@ -179,6 +155,17 @@ module _ (A B Z : List ℕ) (m : ℕ) (e : A ≡ B) (l : m ≡ length B) where
 module _ (q rows cols i : ℕ) (T : List ℕ) where
   pub pivot-is : rows ≤ 48 → cols ≤ 48 → rows * cols ≡ length T → i < rows → has_pivot rows cols i T ≡ ltb (pivot_of (row_of cols T i)) cols
   pivot-is r k e h = rw (le-leb rows 48 r, le-leb cols 48 k, eq-eqb (rows * cols) (length T) e, lt-ltb i rows h)
+
+  pub pivot-shaped : shaped rows cols T ≡ true → i < rows → has_pivot rows cols i T ≡ ltb (pivot_of (row_of cols T i)) cols
+  pivot-shaped e h =
+      ap (λ (t : Bool). t && ltb i rows && ltb (pivot_of (row_of cols T i)) cols) e ∙ ap (λ (t : Bool). t && ltb (pivot_of (row_of cols T i)) cols) (lt-ltb i rows h)
+
+  pub no-shape : shaped rows cols T ≡ false → has_pivot rows cols i T ≡ false
+  no-shape e = ap (λ (t : Bool). t && ltb i rows && ltb (pivot_of (row_of cols T i)) cols) e
+
+  pub no-row : shaped rows cols T ≡ true → rows ≤ i → has_pivot rows cols i T ≡ false
+  no-row e h =
+      ap (λ (t : Bool). t && ltb i rows && ltb (pivot_of (row_of cols T i)) cols) e ∙ ap (λ (t : Bool). t && ltb (pivot_of (row_of cols T i)) cols) (le-ltb i rows h)
 
   -- nothing changes
   pub no-pivot : (from : ℕ) → has_pivot rows cols i T ≡ false → (false ≡ has_pivot rows cols i T) × (T ≡ eliminated_from q rows cols from i T)

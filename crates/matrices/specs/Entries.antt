@@ -1,14 +1,8 @@
 -- The checked rank. Document 01, "Order": "Rank, of 0 to 48 rows and 0 to 48 columns: 1, 4, 2, 3."
 use Rattle.std.specs.Prelude.{ℕ, ◌*◌, Bool, not, ◌&&◌, List, [], ◌∷◌, leb, eqb, length}
 use Rattle.refusals.specs.declared.Code.{Code}
-use Rattle.refusals.specs.Codes.{code, accepted, code_of, Outcome}
+use Rattle.refusals.specs.Codes.{code}
 use Rattle.residues.specs.Primes.{is_prime, all_below}
-use Rattle.matrices.specs.declared.Ranked.{Ranked}
-use Rattle.matrices.specs.declared.Ranked.TheVariants.{Rank, Refused}
-
-abbrev pub outcome_of : Ranked → Outcome
-outcome_of (Rank n) = record { refusal = accepted; value = n }
-outcome_of (Refused r) = record { refusal = code_of r; value = 0 }
 
 abbrev pub rank_checks : ℕ → ℕ → ℕ → List ℕ → List (Bool × Code)
 rank_checks q rows cols T =

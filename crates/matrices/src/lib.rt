@@ -2,32 +2,37 @@
 #![tactic(auto)]
 
 ghost use Rattle.std.specs.Prelude.{◌≡◌, ◌*◌, ◌≤◌, ◌<◌, cond, eqb, length};
-ghost use Rattle.refusals.specs.Codes.{first_of, verdict_code, outcome};
-ghost use Rattle.matrices.specs.Tables.{row_of, rows_of, pivot_of, crossed, cleared, each_row};
+ghost use Rattle.refusals.specs.Codes.{first_of, code_of_result, outcome, outcome_of};
+ghost use Rattle.matrices.specs.Tables.{row_of, rows_of, shaped, pivot_of, crossed, cleared, each_row};
 ghost use Rattle.matrices.specs.Tables.{has_pivot, cleared_by, eliminated_from, eliminated, reduced_from, pivots_from};
 ghost use Rattle.matrices.specs.Sweeps.{carried_by, carried};
 ghost use Rattle.matrices.specs.Rank.{rank_of};
-ghost use Rattle.matrices.specs.Entries.{outcome_of, rank_checks};
+ghost use Rattle.matrices.specs.Entries.{rank_checks};
 
 use arithmetic::Symbol;
 use primes::is_prime;
-use refusals::{Refusal, Verdict};
+use refusals::{Refusal, refuse_unless};
 
 // The most rows and columns of a table.
 pub const MOST: usize = 48;
+
+// Whether the table has at most MOST rows and columns, and as many numbers as that makes.
+fn is_shaped(rows: usize, cols: usize, table: &[Symbol]) -> bool
+    ensures { result ≡ shaped rows cols table.now }
+{
+    rows <= MOST && cols <= MOST && rows * cols == table.len()
+}
 
 // The first column in which a row is not 0; the row's length where there is none.
 fn pivot(row: &[Symbol]) -> usize
     ensures { result ≡ pivot_of row.now }
 {
-    let mut k = 0;
-    while k < row.len() {
+    for k in 0..row.len() {
         if row[k] != 0 {
             return k;
         }
-        k += 1;
     }
-    k
+    row.len()
 }
 
 // Makes y times a row less x times s of the row.
@@ -35,10 +40,8 @@ fn cross(q: Symbol, y: Symbol, x: Symbol, row: &mut [Symbol], s: &[Symbol])
     requires { length row.old ≡ length s.now }
     ensures { row.new ≡ crossed q y x row.old s.now }
 {
-    let mut k = 0;
-    while k < row.len() {
+    for k in 0..row.len() {
         row[k] = arithmetic::cross_mod(q, y, row[k], x, s[k]);
-        k += 1;
     }
 }
 
@@ -48,22 +51,18 @@ fn clear(q: Symbol, p: usize, row: &mut [Symbol], s: &[Symbol])
     ensures { row.new ≡ cleared q p s.now row.old }
 {
     let x = row[p];
-    if x == 0 {
-        return;
+    if x != 0 {
+        cross(q, s[p], x, row, s);
     }
-    cross(q, s[p], x, row, s);
 }
 
 fn clear_rows(q: Symbol, rows: usize, cols: usize, p: usize, table: &mut [Symbol], s: &[Symbol])
     requires { (rows * cols ≡ length table.old) × (p < cols) × (length s.now ≡ cols) }
     ensures { table.new ≡ each_row (cleared q p s.now) rows cols table.old }
 {
-    let mut j = 0;
-    while j < rows {
+    for j in 0..rows {
         let b = j * cols;
-        let e = b + cols;
-        clear(q, p, &mut table[b..e], s);
-        j += 1;
+        clear(q, p, &mut table[b..b + cols], s);
     }
 }
 
@@ -81,11 +80,10 @@ fn clear_from(
     ensures { table.new ≡ cleared_by q rows cols from (row_of cols table.old i) table.old }
 {
     let b = i * cols;
-    let e = b + cols;
     let mut s = [0 as Symbol; MOST];
-    copy_all(&table[b..e], &mut s[..cols]);
-    let start = from * cols;
-    clear_rows(q, rows - from, cols, p, &mut table[start..], &s[..cols]);
+    s[..cols].copy_from_slice(&table[b..b + cols]);
+    let rest = &mut table[from * cols..];
+    clear_rows(q, rows - from, cols, p, rest, &s[..cols]);
 }
 
 // Clears the rows from number `from` on by row i, where that is not 0; whether it is not.
@@ -101,35 +99,22 @@ fn eliminate_from(
     ensures { (result ≡ has_pivot rows cols i table.old) × (table.new ≡ eliminated_from q rows cols from i table.old) }
 {
     let b = i * cols;
-    let e = b + cols;
-    let p = pivot(&table[b..e]);
-    if p >= cols {
-        return false;
+    let p = pivot(&table[b..b + cols]);
+    if p < cols && from < rows {
+        clear_from(q, rows, cols, from, i, p, table);
     }
-    if from == rows {
-        return true;
-    }
-    clear_from(q, rows, cols, from, i, p, table);
-    true
+    p < cols
 }
 
 // Clears every row by row i in the first column in which that is not 0; whether there is such a column.
 pub fn eliminate(q: Symbol, rows: usize, cols: usize, i: usize, table: &mut [Symbol]) -> bool
     ensures { (result ≡ has_pivot rows cols i table.old) × (table.new ≡ eliminated q rows cols i table.old) }
 {
-    if rows > MOST {
-        return false;
+    if is_shaped(rows, cols, table) && i < rows {
+        eliminate_from(q, rows, cols, 0, i, table)
+    } else {
+        false
     }
-    if cols > MOST {
-        return false;
-    }
-    if rows * cols != table.len() {
-        return false;
-    }
-    if i >= rows {
-        return false;
-    }
-    eliminate_from(q, rows, cols, 0, i, table)
 }
 
 fn carry_by(q: Symbol, cols: usize, i: usize, p: usize, table: &[Symbol], values: &mut [Symbol])
@@ -138,13 +123,11 @@ fn carry_by(q: Symbol, cols: usize, i: usize, p: usize, table: &[Symbol], values
 {
     let y = table[i * cols + p];
     let v = values[i];
-    let mut r = 0;
-    while r < values.len() {
+    for r in 0..values.len() {
         let x = table[r * cols + p];
         if x != 0 {
             values[r] = arithmetic::cross_mod(q, y, values[r], x, v);
         }
-        r += 1;
     }
 }
 
@@ -152,44 +135,24 @@ fn carry_by(q: Symbol, cols: usize, i: usize, p: usize, table: &[Symbol], values
 pub fn carry(q: Symbol, rows: usize, cols: usize, i: usize, table: &[Symbol], values: &mut [Symbol])
     ensures { values.new ≡ carried q rows cols i table.now values.old }
 {
-    if rows > MOST {
-        return;
+    if is_shaped(rows, cols, table) && values.len() == rows && i < rows {
+        let b = i * cols;
+        let p = pivot(&table[b..b + cols]);
+        if p < cols {
+            carry_by(q, cols, i, p, table, values);
+        }
     }
-    if cols > MOST {
-        return;
-    }
-    if rows * cols != table.len() {
-        return;
-    }
-    if values.len() != rows {
-        return;
-    }
-    if i >= rows {
-        return;
-    }
-    let b = i * cols;
-    let e = b + cols;
-    let p = pivot(&table[b..e]);
-    if p >= cols {
-        return;
-    }
-    carry_by(q, cols, i, p, table, values);
 }
 
 // Clears, by each row in turn, the rows after it; how many rows were not 0 when their turn came.
 pub fn reduce_rows(q: Symbol, rows: usize, cols: usize, table: &mut [Symbol]) -> usize
     ensures { (result ≡ pivots_from q rows cols rows 0 table.old) × (table.new ≡ reduced_from q rows cols rows 0 table.old) }
 {
-    if rows > MOST {
-        return 0;
+    if is_shaped(rows, cols, table) {
+        count_pivots(q, rows, cols, table)
+    } else {
+        0
     }
-    if cols > MOST {
-        return 0;
-    }
-    if rows * cols != table.len() {
-        return 0;
-    }
-    count_pivots(q, rows, cols, table)
 }
 
 fn count_pivots(q: Symbol, rows: usize, cols: usize, table: &mut [Symbol]) -> usize
@@ -197,12 +160,10 @@ fn count_pivots(q: Symbol, rows: usize, cols: usize, table: &mut [Symbol]) -> us
     ensures { (result ≡ pivots_from q rows cols rows 0 table.old) × (table.new ≡ reduced_from q rows cols rows 0 table.old) }
 {
     let mut n: usize = 0;
-    let mut i: usize = 0;
-    while i < rows {
+    for i in 0..rows {
         if eliminate_from(q, rows, cols, i + 1, i, table) {
             n += 1;
         }
-        i += 1;
     }
     n
 }
@@ -212,18 +173,7 @@ pub fn copy(from: &[Symbol], to: &mut [Symbol])
     ensures { to.new ≡ cond (eqb (length from.now) (length to.old)) from.now to.old }
 {
     if from.len() == to.len() {
-        copy_all(from, to);
-    }
-}
-
-fn copy_all(from: &[Symbol], to: &mut [Symbol])
-    requires { length from.now ≡ length to.old }
-    ensures { to.new ≡ from.now }
-{
-    let mut j = 0;
-    while j < from.len() {
-        to[j] = from[j];
-        j += 1;
+        to.copy_from_slice(from);
     }
 }
 
@@ -234,44 +184,23 @@ fn count_in_copy(q: Symbol, rows: usize, cols: usize, table: &[Symbol]) -> usize
 {
     let m = rows * cols;
     let mut t = [0 as Symbol; MOST * MOST];
-    copy_all(table, &mut t[..m]);
+    t[..m].copy_from_slice(table);
     count_pivots(q, rows, cols, &mut t[..m])
 }
 
-// What the checked rank answers.
-#[derive(Clone, Copy)]
-pub enum Ranked {
-    Rank(usize),
-    Refused(Refusal),
-}
-
-fn check_rank(q: Symbol, rows: usize, cols: usize, table: &[Symbol]) -> Verdict
-    ensures { verdict_code result ≡ first_of (rank_checks q rows cols table.now) }
+fn check_rank(q: Symbol, rows: usize, cols: usize, table: &[Symbol]) -> Result<(), Refusal>
+    ensures { code_of_result result ≡ first_of (rank_checks q rows cols table.now) }
 {
-    if rows > MOST {
-        return Verdict::Refused(Refusal::OutOfBounds);
-    }
-    if cols > MOST {
-        return Verdict::Refused(Refusal::OutOfBounds);
-    }
-    if rows * cols != table.len() {
-        return Verdict::Refused(Refusal::WrongLength);
-    }
-    if !is_prime(q) {
-        return Verdict::Refused(Refusal::NotPrime);
-    }
-    if !arithmetic::all_below(q, table) {
-        return Verdict::Refused(Refusal::NotASymbol);
-    }
-    Verdict::Accepted
+    refuse_unless(rows <= MOST && cols <= MOST, Refusal::OutOfBounds)?;
+    refuse_unless(rows * cols == table.len(), Refusal::WrongLength)?;
+    refuse_unless(is_prime(q), Refusal::NotPrime)?;
+    refuse_unless(arithmetic::all_below(q, table), Refusal::NotASymbol)
 }
 
 // The number of rows that are not in the span of the rows before them.
-pub fn rank(q: Symbol, rows: usize, cols: usize, table: &[Symbol]) -> Ranked
+pub fn rank(q: Symbol, rows: usize, cols: usize, table: &[Symbol]) -> Result<usize, Refusal>
     ensures { outcome_of result ≡ outcome (rank_checks q rows cols table.now) (rank_of q cols (rows_of rows cols table.now)) }
 {
-    match check_rank(q, rows, cols, table) {
-        Verdict::Refused(refusal) => Ranked::Refused(refusal),
-        Verdict::Accepted => Ranked::Rank(count_in_copy(q, rows, cols, table)),
-    }
+    check_rank(q, rows, cols, table)?;
+    Ok(count_in_copy(q, rows, cols, table))
 }

@@ -28,7 +28,8 @@ pub fn agrees(case: usize, t: &mut [Symbol], other: &mut [Symbol]) -> bool {
     let n = clip(case % 3, t.len());
     copy_without(case, n, t, other);
     if n == 0 {
-        return same(t, other);
+        same(t, other)
+    } else {
+        count_large(other, 1) == 0
     }
-    count_large(other, 1) == 0
 }

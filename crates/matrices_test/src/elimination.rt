@@ -30,7 +30,7 @@ pub fn length(case: usize) -> usize {
 }
 
 // The row that is eliminated by, and the first column in which it is not 0: past the last where there is none.
-#[derive(Clone, Copy)]
+#[derive(Clone, Copy, Debug, PartialEq, Eq)]
 struct Pivot {
     row: usize,
     column: usize,
@@ -39,9 +39,10 @@ struct Pivot {
 // What row j has in the pivot column: 0 where there is no pivot.
 fn at_pivot(s: Shape, old: &[Symbol], by: Pivot, j: usize) -> usize {
     if by.column >= s.cols {
-        return 0;
+        0
+    } else {
+        entry(s.cols, old, j, by.column)
     }
-    entry(s.cols, old, j, by.column)
 }
 
 // What elimination makes of place n: its number times the pivot, less the multiple of the row's in the same column.
@@ -58,21 +59,12 @@ fn expected(s: Shape, old: &[Symbol], by: Pivot, n: usize) -> usize {
 
 // Row i and the pivot column are 0 afterwards.
 fn is_zero_place(s: Shape, by: Pivot, n: usize) -> bool {
-    if quotient(n, s.cols) == by.row {
-        return true;
-    }
-    residue(n, s.cols) == by.column
+    quotient(n, s.cols) == by.row || residue(n, s.cols) == by.column
 }
 
 fn holds_at(s: Shape, old: &[Symbol], t: &[Symbol], by: Pivot, n: usize) -> bool {
     let a = at(t, n);
-    if a != expected(s, old, by, n) {
-        return false;
-    }
-    if is_zero_place(s, by, n) {
-        return a == 0;
-    }
-    true
+    a == expected(s, old, by, n) && (a == 0 || !is_zero_place(s, by, n))
 }
 
 fn holds(s: Shape, old: &[Symbol], t: &[Symbol], by: Pivot) -> bool {
@@ -90,10 +82,7 @@ fn compare(s: Shape, old: &[Symbol], t: &[Symbol], i: usize, found: bool) -> boo
         column: first_column(s.cols, old, i),
     };
     let has = by.column < s.cols;
-    if found != has {
-        return false;
-    }
-    holds(s, old, t, by)
+    found == has && holds(s, old, t, by)
 }
 
 pub fn agrees(case: usize, t: &mut [Symbol], old: &mut [Symbol]) -> bool {

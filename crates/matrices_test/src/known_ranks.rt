@@ -4,36 +4,35 @@ use crate::numbers::skip;
 use crate::tables::{Shape, first_column, place, rank, set_row};
 use arithmetic::Symbol;
 use std::num::{wrapping_add_usize, wrapping_sub_usize};
-use testing::{PRIMES, at, draw, narrow, prime, product, put, quotient, residue, seed, step};
+use testing::{PRIMES, at, clip, draw, narrow, prime, product, put, quotient, residue, seed, step};
 
 // A matrix to make: its shape, its rank, and the column of the first row's 1.
-#[derive(Clone, Copy)]
+#[derive(Clone, Copy, Debug, PartialEq, Eq)]
 struct KnownRank {
     shape: Shape,
     rank: usize,
     first: usize,
 }
 
-fn plain(q: usize, rows: usize, cols: usize, rank: usize) -> KnownRank {
+// Rows, columns and rank of the largest and the smallest shapes.
+static OUTERMOST: [[usize; 3]; 9] = [
+    [0, 48, 0],
+    [48, 0, 0],
+    [0, 0, 0],
+    [48, 48, 48],
+    [48, 48, 47],
+    [48, 48, 1],
+    [48, 48, 0],
+    [48, 1, 1],
+    [1, 48, 1],
+];
+
+fn outermost(q: usize, n: usize) -> KnownRank {
+    let [rows, cols, rank] = OUTERMOST[clip(n, 8)];
     KnownRank {
         shape: Shape { q, rows, cols },
         rank,
         first: 0,
-    }
-}
-
-// The largest and the smallest shapes.
-fn outermost(q: usize, n: usize) -> KnownRank {
-    match n {
-        0 => plain(q, 0, 48, 0),
-        1 => plain(q, 48, 0, 0),
-        2 => plain(q, 0, 0, 0),
-        3 => plain(q, 48, 48, 48),
-        4 => plain(q, 48, 48, 47),
-        5 => plain(q, 48, 48, 1),
-        6 => plain(q, 48, 48, 0),
-        7 => plain(q, 48, 1, 1),
-        _ => plain(q, 1, 48, 1),
     }
 }
 
@@ -76,16 +75,13 @@ pub fn length(case: usize) -> usize {
 // The number in row j and column k before rows are added.
 fn start_entry(m: KnownRank, j: usize, k: usize, x: usize) -> usize {
     let one = wrapping_add_usize(j, m.first);
-    if j >= m.rank {
-        return 0;
+    if j >= m.rank || k < one {
+        0
+    } else if k == one {
+        1
+    } else {
+        residue(x, m.shape.q)
     }
-    if k < one {
-        return 0;
-    }
-    if k == one {
-        return 1;
-    }
-    residue(x, m.shape.q)
 }
 
 fn fill_start(m: KnownRank, seed: usize, t: &mut [Symbol]) {
@@ -153,10 +149,7 @@ fn count_rows(s: Shape, t: &[Symbol]) -> usize {
 
 // reduce_rows leaves as many rows that are not 0 as it counts.
 fn reduces_to(s: Shape, t: &mut [Symbol], r: usize) -> bool {
-    if matrices::reduce_rows(narrow(s.q), s.rows, s.cols, t) != r {
-        return false;
-    }
-    count_rows(s, t) == r
+    matrices::reduce_rows(narrow(s.q), s.rows, s.cols, t) == r && count_rows(s, t) == r
 }
 
 // reduce_rows counts the known rank too, also with the rows in another order.
@@ -165,8 +158,5 @@ pub fn reduces(case: usize, t: &mut [Symbol], other: &mut [Symbol]) -> bool {
     let s = m.shape;
     make(m, case, t);
     reorder(s, t, other, 48 + case % 48);
-    if !reduces_to(s, t, m.rank) {
-        return false;
-    }
-    reduces_to(s, other, m.rank)
+    reduces_to(s, t, m.rank) && reduces_to(s, other, m.rank)
 }

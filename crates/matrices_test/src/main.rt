@@ -19,90 +19,117 @@ use std::num::wrapping_add_usize;
 // One number more than the largest table has.
 const LONGEST: usize = 2305;
 
-fn name(group: usize) -> &'static str {
-    match group {
-        0 => "solutions",
-        1 => "known ranks",
-        2 => "reduced rows",
-        3 => "elimination",
-        4 => "wrong shapes",
-        5 => "refusals",
-        6 => "copies",
-        _ => "total",
-    }
+// How many cases agree, and how many there are.
+#[derive(Clone, Copy, Debug, PartialEq, Eq)]
+struct Tally {
+    agree: usize,
+    cases: usize,
 }
 
-fn cases(group: usize) -> usize {
-    match group {
-        0 => 10000,
-        1 => 2000,
-        2 => 2000,
-        3 => 5000,
-        4 => wrong_shapes::CASES,
-        5 => refused::CASES,
-        _ => copies::CASES,
-    }
-}
-
-// The length of the table that a case takes.
-fn length(group: usize, case: usize) -> usize {
-    match group {
-        0 => solutions::length(case),
-        1 => known_ranks::length(case),
-        2 => known_ranks::length(case),
-        3 => elimination::length(case),
-        4 => wrong_shapes::length(case),
-        5 => refused::length(case),
-        _ => copies::length(case),
-    }
-}
-
-// Whether a case agrees, worked out in two tables of zeros.
-fn compare(group: usize, case: usize, t: &mut [Symbol], other: &mut [Symbol]) -> bool {
-    match group {
-        0 => solutions::agrees(case, t),
-        1 => known_ranks::agrees(case, t),
-        2 => known_ranks::reduces(case, t, other),
-        3 => elimination::agrees(case, t, other),
-        4 => wrong_shapes::agrees(case, t, other),
-        5 => refused::agrees(case, t),
-        _ => copies::agrees(case, t, other),
-    }
-}
-
-fn agrees(group: usize, case: usize) -> bool {
-    let n = length(group, case);
+// Whether a case agrees, worked out in two tables of zeros of its length.
+fn agrees<A: Fn(usize, &mut [Symbol], &mut [Symbol]) -> bool>(
+    case: usize,
+    n: usize,
+    compare: &A,
+) -> bool
+    requires { A.IsAlwaysCallable compare.now }
+{
     if n > LONGEST {
         return false;
     }
     let mut t = [0 as Symbol; LONGEST];
     let mut other = [0 as Symbol; LONGEST];
-    compare(group, case, &mut t[..n], &mut other[..n])
+    compare(case, &mut t[..n], &mut other[..n])
 }
 
-fn tally(group: usize, cases: usize) -> usize {
-    let mut n: usize = 0;
+// A group's line, and the total so far with it.
+fn report<L: Fn(usize) -> usize, A: Fn(usize, &mut [Symbol], &mut [Symbol]) -> bool>(
+    rt: &impl Print,
+    total: Tally,
+    name: &str,
+    cases: usize,
+    length: L,
+    compare: A,
+) -> io::Result<Tally>
+    requires { L.IsAlwaysCallable length × A.IsAlwaysCallable compare }
+{
+    let mut agree: usize = 0;
     for case in 0..cases {
-        if agrees(group, case) {
-            n = wrapping_add_usize(n, 1);
+        if agrees(case, length(case), &compare) {
+            agree = wrapping_add_usize(agree, 1);
         }
     }
-    n
+    println!(rt; "{name}: {agree} of {cases} agree")?;
+    Ok(Tally {
+        agree: wrapping_add_usize(total.agree, agree),
+        cases: wrapping_add_usize(total.cases, cases),
+    })
 }
 
-fn print_line(rt: &impl Print, group: usize, n: usize, cases: usize) -> io::Result<()> {
-    println!(rt; "{}: {n} of {cases} agree", name(group))
+fn solved(rt: &impl Print, total: Tally) -> io::Result<Tally> {
+    let t = report(
+        rt,
+        total,
+        "solutions",
+        10000,
+        solutions::length,
+        |case, t, _| { solutions::agrees(case, t) },
+    )?;
+    let t = report(
+        rt,
+        t,
+        "known ranks",
+        2000,
+        known_ranks::length,
+        |case, t, _| { known_ranks::agrees(case, t) },
+    )?;
+    report(
+        rt,
+        t,
+        "reduced rows",
+        2000,
+        known_ranks::length,
+        known_ranks::reduces,
+    )
+}
+
+fn eliminated(rt: &impl Print, total: Tally) -> io::Result<Tally> {
+    let t = report(
+        rt,
+        total,
+        "elimination",
+        5000,
+        elimination::length,
+        elimination::agrees,
+    )?;
+    let t = report(
+        rt,
+        t,
+        "wrong shapes",
+        wrong_shapes::CASES,
+        wrong_shapes::length,
+        wrong_shapes::agrees,
+    )?;
+    let t = report(
+        rt,
+        t,
+        "refusals",
+        refused::CASES,
+        refused::length,
+        |case, t, _| { refused::agrees(case, t) },
+    )?;
+    report(
+        rt,
+        t,
+        "copies",
+        copies::CASES,
+        copies::length,
+        copies::agrees,
+    )
 }
 
 fn main(rt: HostRuntime) -> io::Result<()> {
-    let mut total: usize = 0;
-    let mut all: usize = 0;
-    for group in 0usize..7 {
-        let m = cases(group);
-        let n = tally(group, m);
-        print_line(&rt, group, n, m)?;
-        total = wrapping_add_usize(total, n);
-        all = wrapping_add_usize(all, m);
-    }
-    print_line(&rt, 7, total, all)
+    let none = Tally { agree: 0, cases: 0 };
+    let t = eliminated(&rt, solved(&rt, none)?)?;
+    println!(rt; "total: {} of {} agree", t.agree, t.cases)
 }

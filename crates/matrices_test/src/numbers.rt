@@ -17,6 +17,7 @@ pub fn power(q: usize, a: usize, n: usize) -> usize {
     let mut result: usize = 1;
     let mut square = a;
     let mut left = n;
+    // a while: each step halves what is left
     while left > 0 {
         if left % 2 == 1 {
             result = mul_add(q, 0, result, square);

@@ -1,17 +1,17 @@
 // What rank refuses, and in which order. Each of the four things that can be wrong is right or wrong by itself, in all combinations.
-use crate::shapes::{length_of, shape_of};
+use crate::shapes::{LENGTHS, Length, length_of, shape_of};
 use crate::tables::answer;
 use arithmetic::Symbol;
 use std::num::wrapping_sub_usize;
-use testing::{draw, put, seed};
+use testing::{clip, draw, put, seed};
 
 // 8 shapes, 3 lengths, 14 moduli and 6 numbers.
 pub const CASES: usize = 2016;
 
-#[derive(Clone, Copy)]
+#[derive(Clone, Copy, Debug, PartialEq, Eq)]
 struct Choice {
     shape: usize,
-    length: usize,
+    length: Length,
     modulus: usize,
     number: usize,
 }
@@ -19,7 +19,7 @@ struct Choice {
 fn choose(case: usize) -> Choice {
     Choice {
         shape: case % 8,
-        length: case / 8 % 3,
+        length: LENGTHS[case / 8 % 3],
         modulus: case / 24 % 14,
         number: case / 336,
     }
@@ -29,23 +29,12 @@ fn choose(case: usize) -> Choice {
 const PRIME_MODULI: usize = 7;
 
 // The last is the square of the largest prime of 16 bits.
+static MODULUS: [usize; 14] = [
+    2, 7, 257, 65521, 65537, 2147483647, 4294967291, 0, 1, 4, 65535, 65536, 4294967295, 4293001441,
+];
+
 fn modulus(n: usize) -> usize {
-    match n {
-        0 => 2,
-        1 => 7,
-        2 => 257,
-        3 => 65521,
-        4 => 65537,
-        5 => 2147483647,
-        6 => 4294967291,
-        7 => 0,
-        8 => 1,
-        9 => 4,
-        10 => 65535,
-        11 => 65536,
-        12 => 4294967295,
-        _ => 4293001441,
-    }
+    MODULUS[clip(n, 13)]
 }
 
 // The one number of the table that may not be 0.
@@ -62,26 +51,27 @@ fn number(q: usize, n: usize) -> usize {
 
 fn rank_of(a: usize, q: usize) -> usize {
     if a >= q {
-        return 3;
+        3
+    } else if a == 0 {
+        100
+    } else {
+        101
     }
-    if a == 0 { 100 } else { 101 }
 }
 
 // In the order 1, 4, 2, 3. Where nothing is wrong the rank is 0, or 1 if the table has a number that is not 0; shapes 2 and 3 have no numbers.
 fn expected(c: Choice) -> usize {
     if c.shape >= 4 {
-        return 1;
+        1
+    } else if c.length != Length::Right {
+        4
+    } else if c.modulus >= PRIME_MODULI {
+        2
+    } else if c.shape >= 2 {
+        100
+    } else {
+        rank_of(number(modulus(c.modulus), c.number), modulus(c.modulus))
     }
-    if c.length != 0 {
-        return 4;
-    }
-    if c.modulus >= PRIME_MODULI {
-        return 2;
-    }
-    if c.shape >= 2 {
-        return 100;
-    }
-    rank_of(number(modulus(c.modulus), c.number), modulus(c.modulus))
 }
 
 pub fn length(case: usize) -> usize {

@@ -1,50 +1,36 @@
 // Shapes and lengths, right and wrong, in all combinations.
 use crate::tables::Shape;
-use testing::product;
+use testing::{clip, product};
 
-// Shapes 0 to 3 are right. The product of 2^32 and 2^32 would wrap to 0.
-fn rows_of(n: usize) -> usize {
-    match n {
-        0 => 3,
-        1 => 48,
-        2 => 0,
-        3 => 48,
-        4 => 49,
-        5 => 1,
-        6 => 4294967296,
-        _ => 18446744073709551615,
-    }
+// Rows and columns. The first 4 shapes are right. The product of 2^32 and 2^32 would wrap to 0.
+static ROWS: [usize; 8] = [3, 48, 0, 48, 49, 1, 4294967296, 18446744073709551615];
+
+static COLS: [usize; 8] = [4, 48, 48, 0, 1, 49, 4294967296, 0];
+
+#[derive(Clone, Copy, Debug, PartialEq, Eq)]
+pub enum Length {
+    Right,
+    TooLong,
+    TooShort,
 }
 
-fn cols_of(n: usize) -> usize {
-    match n {
-        0 => 4,
-        1 => 48,
-        2 => 48,
-        3 => 0,
-        4 => 1,
-        5 => 49,
-        6 => 4294967296,
-        _ => 0,
-    }
-}
+pub static LENGTHS: [Length; 3] = [Length::Right, Length::TooLong, Length::TooShort];
 
 pub fn shape_of(q: usize, n: usize) -> Shape {
     Shape {
         q,
-        rows: rows_of(n),
-        cols: cols_of(n),
+        rows: ROWS[clip(n, 7)],
+        cols: COLS[clip(n, 7)],
     }
 }
 
-// Right at 0, else too long or too short; an empty table can only be too long.
-pub fn length_of(shape: usize, n: usize) -> usize {
-    let m = product(rows_of(shape), cols_of(shape));
-    if n == 0 {
-        return m;
+// An empty table can only be too long.
+pub fn length_of(shape: usize, length: Length) -> usize {
+    let s = shape_of(0, shape);
+    let m = product(s.rows, s.cols);
+    match length {
+        Length::Right => m,
+        Length::TooLong => m + 1,
+        Length::TooShort => if m == 0 { 5 } else { m - 1 },
     }
-    if n == 1 {
-        return m + 1;
-    }
-    if m == 0 { 5 } else { m - 1 }
 }

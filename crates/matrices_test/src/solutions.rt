@@ -96,10 +96,7 @@ fn count(s: Shape, t: &[Symbol], vectors: usize) -> usize {
 // The powers are below 65,536, so that they are what they are modulo 65,536.
 fn counts_match(s: Shape, t: &[Symbol], r: usize) -> bool {
     let cols = s.cols;
-    if r > cols {
-        return false;
-    }
-    count(s, t, power(65536, s.q, cols)) == power(65536, s.q, cols - r)
+    r <= cols && count(s, t, power(65536, s.q, cols)) == power(65536, s.q, cols - r)
 }
 
 pub fn agrees(case: usize, t: &mut [Symbol]) -> bool {
@@ -108,8 +105,5 @@ pub fn agrees(case: usize, t: &mut [Symbol]) -> bool {
     fill(s.q, x, t);
     let dependent = change_rows(s, t, skip(x));
     let r = rank(s, t);
-    if r % 65536 + dependent % 65536 > s.rows {
-        return false;
-    }
-    counts_match(s, t, r)
+    r % 65536 + dependent % 65536 <= s.rows && counts_match(s, t, r)
 }

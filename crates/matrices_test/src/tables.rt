@@ -1,12 +1,10 @@
 // Tables for the cases: reading them, making them, and changing them row by row.
 use crate::numbers::mul_add;
 use arithmetic::Symbol;
-use matrices::Ranked;
-use refusals::Refusal;
 use std::num::wrapping_sub_usize;
 use testing::{at, draw, narrow, product, put, residue, step, wide16};
 
-#[derive(Clone, Copy)]
+#[derive(Clone, Copy, Debug, PartialEq, Eq)]
 pub struct Shape {
     pub q: usize,
     pub rows: usize,
@@ -24,9 +22,7 @@ pub fn entry(cols: usize, t: &[Symbol], j: usize, k: usize) -> usize {
 // The first column in which row i is not 0, found from the last column back; the number of columns where there is none.
 pub fn first_column(cols: usize, t: &[Symbol], i: usize) -> usize {
     let mut p = cols;
-    let mut k = cols;
-    while k > 0 {
-        k -= 1;
+    for k in (0..cols).rev() {
         if entry(cols, t, i, k) != 0 {
             p = k;
         }
@@ -37,9 +33,10 @@ pub fn first_column(cols: usize, t: &[Symbol], i: usize) -> usize {
 // A third of the numbers are 0, so that the first number of a row that is not 0 stands in any column.
 fn draw_number(q: usize, x: usize) -> usize {
     if draw(x, 3) == 0 {
-        return 0;
+        0
+    } else {
+        residue(step(x), q)
     }
-    residue(step(x), q)
 }
 
 // Numbers below q at every place.
@@ -61,16 +58,11 @@ pub fn set_row(s: Shape, t: &mut [Symbol], j: usize, c: usize, a: usize, d: usiz
     }
 }
 
-fn number_of(refusal: Refusal) -> usize {
-    let code = refusals::code_of(refusal);
-    wide16(code.number)
-}
-
 // What the library's rank says: the number of a refusal, else 100 more than the rank.
 pub fn answer(s: Shape, t: &[Symbol]) -> usize {
     match matrices::rank(narrow(s.q), s.rows, s.cols, t) {
-        Ranked::Rank(n) => n % 65536 + 100,
-        Ranked::Refused(refusal) => number_of(refusal),
+        Ok(n) => n % 65536 + 100,
+        Err(refusal) => wide16(refusal.number()),
     }
 }
 

@@ -1,8 +1,8 @@
 // Shapes that are no tables, and rows that a table does not have: elimination finds nothing and leaves the numbers as they are.
-use crate::shapes::{length_of, shape_of};
+use crate::shapes::{LENGTHS, length_of, shape_of};
 use crate::tables::fill;
 use arithmetic::Symbol;
-use testing::{narrow, same, seed};
+use testing::{clip, narrow, same, seed};
 
 // The 24 combinations of a shape and a length for eliminate, then the 20 wrong ones for reduce_rows.
 pub const CASES: usize = 44;
@@ -14,15 +14,14 @@ fn combination(case: usize) -> usize {
 
 pub fn length(case: usize) -> usize {
     let n = combination(case);
-    length_of(n % 8, n / 8)
+    length_of(n % 8, LENGTHS[clip(n / 8, 2)])
 }
 
 // Where the shape and the length are right, the row is wrong.
 fn row(case: usize, rows: usize) -> usize {
     if case >= 4 {
-        return 0;
-    }
-    if case % 2 == 0 {
+        0
+    } else if case % 2 == 0 {
         rows
     } else {
         18446744073709551615
@@ -32,9 +31,10 @@ fn row(case: usize, rows: usize) -> usize {
 fn finds(q: usize, case: usize, t: &mut [Symbol]) -> bool {
     let s = shape_of(q, combination(case) % 8);
     if case < 24 {
-        return matrices::eliminate(narrow(q), s.rows, s.cols, row(case, s.rows), t);
+        matrices::eliminate(narrow(q), s.rows, s.cols, row(case, s.rows), t)
+    } else {
+        matrices::reduce_rows(narrow(q), s.rows, s.cols, t) != 0
     }
-    matrices::reduce_rows(narrow(q), s.rows, s.cols, t) != 0
 }
 
 pub fn agrees(case: usize, t: &mut [Symbol], old: &mut [Symbol]) -> bool {
@@ -42,8 +42,5 @@ pub fn agrees(case: usize, t: &mut [Symbol], old: &mut [Symbol]) -> bool {
     let x = seed(case);
     fill(q, x, t);
     fill(q, x, old);
-    if finds(q, case, t) {
-        return false;
-    }
-    same(old, t)
+    !finds(q, case, t) && same(old, t)
 }

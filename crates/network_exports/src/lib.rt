@@ -3,15 +3,13 @@
 
 ghost use Rattle.std.specs.Prelude.{◌≡◌};
 ghost use Rattle.refusals.specs.Codes.{first_of, if_accepted};
-ghost use Rattle.arithmetic.specs.Entries.{outcome_of};
 ghost use Rattle.networks.specs.Rings.{vet_checks, upload_checks, uploaded, sum_checks, summed, decode_checks, decoded_after};
 ghost use Rattle.boundary.specs.Packed.{packed};
 ghost use Rattle.network_exports.specs.Counts.{ring_of};
 
-use arithmetic::{Answer, Symbol};
-use boundary::{pack, pack_verdict};
+use arithmetic::Symbol;
+use boundary::{hand_over, pack_verdict};
 use networks::Ring;
-use refusals::{Verdict, code_of};
 
 // How many numbers a network has beside its key table and its coefficients, and where each stands.
 const COUNTS: usize = 5;
@@ -35,20 +33,6 @@ fn ring_of(counts: [Symbol; COUNTS]) -> Ring
         parts: counts[PARTS] as usize,
         rate: counts[RATE] as usize,
         q: counts[Q],
-    }
-}
-
-// The symbol of an answer goes into the lent one, where nothing is refused.
-fn hand_over(answer: Answer, out: &mut Symbol) -> u64
-    ensures code { result ≡ packed (outcome_of answer).refusal }
-    ensures out { out.new ≡ if_accepted (outcome_of answer).refusal (outcome_of answer).value out.old }
-{
-    match answer {
-        Answer::Refused(refusal) => pack(code_of(refusal)),
-        Answer::Value(symbol) => {
-            *out = symbol;
-            pack_verdict(Verdict::Accepted)
-        }
     }
 }
 
@@ -80,8 +64,10 @@ pub extern "C" fn kortyghai_network_upload(
         ≡ if_accepted (first_of (upload_checks (ring_of counts.now) weights.now user relay reading.now key))
         (uploaded (ring_of counts.now) weights.now user relay reading.now key) out.old }
 {
-    let answer = networks::upload(ring_of(*counts), weights, user, relay, reading, key);
-    hand_over(answer, out)
+    hand_over(
+        networks::upload(ring_of(*counts), weights, user, relay, reading, key),
+        out,
+    )
 }
 
 // A relay's sum of the uploads that it got.
@@ -95,8 +81,7 @@ pub extern "C" fn kortyghai_network_sum(
     ensures out { out.new ≡ if_accepted (first_of (sum_checks (ring_of counts.now) uploads.now))
         (summed (ring_of counts.now) uploads.now) out.old }
 {
-    let answer = networks::relay_sum(ring_of(*counts), uploads);
-    hand_over(answer, out)
+    hand_over(networks::relay_sum(ring_of(*counts), uploads), out)
 }
 
 // The totals, at the server, from the sums of the relays that arrived.

@@ -16,7 +16,8 @@ use Rattle.residues.proofs.PrimeLaws.{prime-pos, true-prime}
 use Rattle.lists.proofs.Searches.{T_and, true→T}
 use Rattle.cyclic.specs.Network.{Network, link_of, linked}
 use Rattle.cyclic.specs.NetworkLeaks.{leaks}
-use Rattle.networks.specs.Rings.{network_of, counts_fit, pattern_fits, table_fits, weights_fit, count_checks, symbol_checks, network_checks, leak_checks}
+use Rattle.networks.specs.Rings.{network_of, counts_fit, pattern_fits, table_fits, weights_fit, count_checks, symbol_checks}
+use Rattle.networks.specs.Rings.{network_checks, leak_at, leak_checks}
 use Rattle.networks.specs.Rings.{upload_checks, sum_checks, arrived_below, lent_fits, lent_below, arrival_checks}
 use Rattle.networks.specs.Machine.{Counted, Ready}
 use Rattle.networks.specs.declared.Ring.{Ring}
@@ -82,27 +83,16 @@ ready-known R K A e =
 -- ---- the walk: the observers that are left decide, where those before do not leak
 
 module _ (C : Network) where
+  -- an observer that is not refused does not leak
+  pub not-leaking : (w : ℕ) → accepted ≡ first_of (leak_at C w ∷ []) → leaks C w ≡ false
+  not-leaking w e = (none-holds (leak_at C w ∷ []) tt e).0
+
   pub walk-next : (k j : ℕ) (c : Code) → leaks C (j + 1) ≡ false → first_of (leak_checks C (suc k) j) ≡ c → first_of (leak_checks C k (j + 1)) ≡ c
   walk-next k j c e h =
       let z : suc j ≡ j + 1 = omega arith in
       ap (λ (i : ℕ). first_of (leak_checks C k i)) (sym z)
       ∙ sym (ap (λ (b : Bool). cond b (record { number = 7; first = 0; second = suc j }) (first_of (leak_checks C k (suc j)))) (ap (leaks C) z ∙ e))
       ∙ h
-
-  pub walk-found : (k j : ℕ) (c : Code) → leaks C (j + 1) ≡ true → first_of (leak_checks C (suc k) j) ≡ c → record { number = 7; first = 0; second = j + 1 } ≡ c
-  walk-found k j c e h =
-      let z : suc j ≡ j + 1 = omega arith in
-      ap (λ (i : ℕ). record { number = 7; first = 0; second = i }) (sym z)
-      ∙ sym (ap (λ (b : Bool). cond b (record { number = 7; first = 0; second = suc j }) (first_of (leak_checks C k (suc j)))) (ap (leaks C) z ∙ e))
-      ∙ h
-
--- ---- two tests
-
-pub both-no : (a b : Bool) → a ≡ false → false ≡ (a && b)
-both-no a b e = rw e
-
-pub both_yes : (a b c : Bool) → a ≡ true → c ≡ b → c ≡ (a && b)
-both_yes a b c e f = rw e f
 
 -- ---- an upload and a sum that nothing refuses
 
@@ -159,13 +149,6 @@ pub record DecodeReady (R : Ring) (K A : List ℕ) (reported : ℕ) (Y out : Lis
   pub many : length Y ≡ R.size
   pub below : T (arrived_below R.q R.size reported Y)
   pub room : length out ≡ R.parts
-
--- K sums, where the lengths are right
-pub sums-many : (R : Ring) (K A Y out : List ℕ) → T (lent_fits R K A Y out) → length Y ≡ R.size
-sums-many R K A Y out t =
-    let (t₁, _) = T_and (table_fits R K && weights_fit R A && eqb (length Y) R.size) (eqb (length out) R.parts) t in
-    let (_, y) = T_and (table_fits R K && weights_fit R A) (eqb (length Y) R.size) t₁ in
-    eqb→eq (length Y) R.size y
 
 pub arrivals-known : (R : Ring) (K A : List ℕ) (reported : ℕ) (Y out : List ℕ) → accepted ≡ first_of (arrival_checks R K A reported Y out)
     → DecodeReady R K A reported Y out

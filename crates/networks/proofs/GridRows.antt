@@ -165,7 +165,3 @@ module _ (C : Network) where
         (λ i. tab (columns C - from) (λ c. entry_of C w (first + i) (from + c)))
     unfolding grid_of
     grid-rows w first from rows b = rows-grid rows (columns C - from) (λ i c. entry_of C w (first + i) (from + c)) (omega arith)
-
-  pub grid-size : (w first from n : ℕ) → length (grid_of C w first from n) ≡ n
-  unfolding grid_of
-  grid-size w first from n = length-tab n (λ t. entry_of C w (first + t / (columns C - from)) (from + t % (columns C - from)))

@@ -1,16 +1,17 @@
 -- What the decoder's loops keep.
 use Prim.Native.Nat.{ℕ, suc, ◌+◌, ◌-◌, ◌*◌, ◌≤◌, ◌<◌}
-use mathlib.Core.Path.{◌≡◌, refl, sym, ap, ap₂, ◌∙◌, subst}
+use mathlib.Core.Path.{◌≡◌, refl, sym, ap, ap₂, ◌∙◌}
 use mathlib.Core.Bool.{Bool, true, false, cond, not, ◌||◌}
 use mathlib.Core.List.{List, ◌++◌}
 use native.Mathlib.Nat.{mul-le-mul}
 use native.Mathlib.Numerals.{add-one}
 use native.Mathlib.Omega.{arith}
 use lib.Dec.{ltb}
-use lib.ListN.{length, take, drop}
+use lib.ListN.{length, take, drop, replicate, length-replicate}
 use borrow.Author.Tests.{lt-ltb, le-ltb}
+use Rattle.std.proofs.lemmas.List.{get_or-replicate}
 use Rattle.lists.specs.Bits.{has_bit}
-use Rattle.lists.specs.Lists.{at, zeros, tab}
+use Rattle.lists.specs.Lists.{zeros, tab}
 use Rattle.lists.proofs.ListLaws.{length-zeros, el-zeros, tab-at, tab-append}
 use Rattle.matrices.specs.Tables.{row_of, pivot_of, eliminated}
 use Rattle.residues.specs.Primes.{all_below}
@@ -19,9 +20,6 @@ use Rattle.matrices.specs.Sweeps.{carried}
 use Rattle.matrices.specs.Sweeps.{swept_table, swept_values}
 
 -- ---- rows of a table
-
-pub cells-few : (rows cols n : ℕ) → rows ≤ 48 → cols ≤ 48 → rows * cols ≡ n → n ≤ 2304
-cells-few rows cols n h b e = subst (λ (z : ℕ). z ≤ 2304) e (mul-le-mul {n₁ = rows} {m₁ = cols} {n₂ = 48} {m₂ = 48} h b)
 
 pub row_ends : (rows cols i n : ℕ) → i < rows → rows * cols ≤ n → i * cols + cols ≤ n
 row_ends rows cols i n h b =
@@ -84,27 +82,7 @@ module _ (q rows cols first reported : ℕ) (T : List ℕ) where
           units = g ∙ s.units ∙ values-next us k false b;
         }
 
--- ---- the values and units that the sweep starts from
-
-pub start_at : ℕ → List ℕ → ℕ → ℕ
-start_at n Y r = cond (ltb r n) 0 (at Y (r - n))
-
-pub start-low : (n : ℕ) (Y : List ℕ) (r : ℕ) → r < n → 0 ≡ start_at n Y r
-unfolding start_at
-start-low n Y r h = rw (lt-ltb r n h)
-
-pub start-high : (n : ℕ) (Y : List ℕ) (r : ℕ) → n ≤ r → at Y (r - n) ≡ start_at n Y r
-unfolding start_at
-start-high n Y r h = rw (le-ltb r n h)
-
-pub start-all : (n : ℕ) (Y : List ℕ) (m : ℕ) → m ≡ n + length Y → tab m (start_at n Y) ≡ zeros n ++ Y
-start-all n Y m e =
-    ap (λ (k : ℕ). tab k (start_at n Y)) e
-    ∙ tab-append n (length Y) (start_at n Y)
-    ∙ ap₂ ◌++◌
-    (tab-at n (start_at n Y) (zeros n) (length-zeros n) (λ k l. sym (start-low n Y k l) ∙ sym (el-zeros n k)))
-    (tab-at (length Y) (λ k. start_at n Y (n + k)) Y refl
-    (λ k l. sym (start-high n Y (n + k) (omega arith)) ∙ (let z : n + k - n ≡ k = omega arith in ap (at Y) z)))
+-- ---- the units that the sweep starts from
 
 abbrev pub unit_at : ℕ → ℕ → ℕ
 unit_at n r = cond (ltb r n) 1 0
@@ -114,6 +92,16 @@ unit-low n r h = rw (lt-ltb r n h)
 
 pub unit-high : (n r : ℕ) → n ≤ r → 0 ≡ unit_at n r
 unit-high n r h = rw (le-ltb r n h)
+
+pub units-all : (n l : ℕ) → n ≤ l → replicate n 1 ++ zeros (l - n) ≡ tab l (unit_at n)
+units-all n l h =
+    let e : n + (l - n) ≡ l = omega arith in
+    ap₂ ◌++◌
+    (sym (tab-at n (unit_at n) (replicate n 1) (length-replicate n 1) (λ k b. sym (unit-low n k b) ∙ sym (get_or-replicate n k 1 0 b))))
+    (sym (tab-at (l - n) (λ k. unit_at n (n + k)) (zeros (l - n)) (length-zeros (l - n))
+    (λ k b. sym (unit-high n (n + k) (omega arith)) ∙ sym (el-zeros (l - n) k))))
+    ∙ sym (tab-append n (l - n) (unit_at n))
+    ∙ ap (λ (k : ℕ). tab k (unit_at n)) e
 
 -- ---- whether a sum that has come is a symbol
 

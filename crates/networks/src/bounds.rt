@@ -1,12 +1,12 @@
 // The bounds of a ring, and what every entry asks of lengths and symbols.
 ghost use Rattle.std.specs.Prelude.{◌≡◌};
-ghost use Rattle.refusals.specs.Codes.{first_of, verdict_code};
+ghost use Rattle.refusals.specs.Codes.{first_of, code_of_result};
 ghost use Rattle.networks.specs.Rings.{counts_fit, pattern_fits, count_checks, symbol_checks};
 
 use crate::Ring;
 use arithmetic::Symbol;
 use primes::is_prime;
-use refusals::{Refusal, Verdict};
+use refusals::{Refusal, refuse_unless};
 
 impl Ring {
     pub const MIN_SIZE: usize = 2;
@@ -27,59 +27,32 @@ impl Ring {
 fn counts_fit(ring: Ring) -> bool
     ensures { result ≡ counts_fit ring }
 {
-    if ring.size < Ring::MIN_SIZE {
-        return false;
-    }
-    if ring.size > Ring::MAX_SIZE {
-        return false;
-    }
-    if ring.rate < 1 {
-        return false;
-    }
-    ring.rate <= Ring::MAX_RATE
+    Ring::MIN_SIZE <= ring.size
+        && ring.size <= Ring::MAX_SIZE
+        && 1 <= ring.rate
+        && ring.rate <= Ring::MAX_RATE
 }
 
 // Whether d and n are within their bounds.
 fn pattern_fits(ring: Ring) -> bool
     ensures { result ≡ pattern_fits ring }
 {
-    if ring.links < 1 {
-        return false;
-    }
-    if ring.links > ring.size {
-        return false;
-    }
-    if ring.parts < 1 {
-        return false;
-    }
-    ring.parts <= Ring::MAX_PARTS
+    1 <= ring.links && ring.links <= ring.size && 1 <= ring.parts && ring.parts <= Ring::MAX_PARTS
 }
 
 // Checks 1 and 22.
-pub(crate) fn check_counts(ring: Ring) -> Verdict
-    ensures { verdict_code result ≡ first_of (count_checks ring) }
+pub(crate) fn check_counts(ring: Ring) -> Result<(), Refusal>
+    ensures { code_of_result result ≡ first_of (count_checks ring) }
 {
-    if !counts_fit(ring) {
-        return Verdict::Refused(Refusal::OutOfBounds);
-    }
-    if !pattern_fits(ring) {
-        return Verdict::Refused(Refusal::BadPattern);
-    }
-    Verdict::Accepted
+    refuse_unless(counts_fit(ring), Refusal::OutOfBounds)?;
+    refuse_unless(pattern_fits(ring), Refusal::BadPattern)
 }
 
 // Checks 4, 2 and 3, by whether the lengths are right and all numbers are symbols.
-pub(crate) fn check_symbols(q: Symbol, lengths: bool, below: bool) -> Verdict
-    ensures { verdict_code result ≡ first_of (symbol_checks q lengths below) }
+pub(crate) fn check_symbols(q: Symbol, lengths: bool, below: bool) -> Result<(), Refusal>
+    ensures { code_of_result result ≡ first_of (symbol_checks q lengths below) }
 {
-    if !lengths {
-        return Verdict::Refused(Refusal::WrongLength);
-    }
-    if !is_prime(q) {
-        return Verdict::Refused(Refusal::NotPrime);
-    }
-    if !below {
-        return Verdict::Refused(Refusal::NotASymbol);
-    }
-    Verdict::Accepted
+    refuse_unless(lengths, Refusal::WrongLength)?;
+    refuse_unless(is_prime(q), Refusal::NotPrime)?;
+    refuse_unless(below, Refusal::NotASymbol)
 }

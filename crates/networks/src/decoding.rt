@@ -1,6 +1,6 @@
 // What the server makes of the sums that have arrived.
-ghost use Rattle.std.specs.Prelude.{◌≡◌, cond, not, ◌++◌, ◌+◌, ◌*◌, ◌≤◌, ◌<◌, ltb, T, length};
-ghost use Rattle.refusals.specs.Codes.{first_of, verdict_code};
+ghost use Rattle.std.specs.Prelude.{◌≡◌, cond, not, ◌++◌, ◌+◌, ◌-◌, ◌*◌, ◌≤◌, ◌<◌, ltb, T, length, replicate};
+ghost use Rattle.refusals.specs.Codes.{first_of, code_of_result};
 ghost use Rattle.lists.specs.Bits.{has_bit};
 ghost use Rattle.residues.specs.Field.{opposite_of, product_of, inverse_of};
 ghost use Rattle.lists.specs.Search.{all_to};
@@ -19,7 +19,7 @@ use crate::grids::fill_grid;
 use crate::verdict::{both_below, lengths_fit};
 use arithmetic::{Symbol, all_below, inverse_mod, mul_mod, opposite_mod};
 use matrices::{carry, eliminate};
-use refusals::{Refusal, Verdict};
+use refusals::{Refusal, refuse_unless};
 
 // Whether the relay's bit is set.
 fn has_arrived(reported: u16, j: usize) -> bool
@@ -65,12 +65,10 @@ fn sweep_all(
     ensures values { values.new ≡ swept_values q rows cols first (has_bit reported) table.old values.old count }
     ensures units { units.new ≡ swept_values q rows cols first (has_bit reported) table.old units.old count }
 {
-    let mut j = 0;
-    while j < count {
+    for j in 0..count {
         if has_arrived(reported, j) {
             sweep(q, rows, cols, first + j, table, values, units);
         }
-        j += 1;
     }
 }
 
@@ -79,14 +77,11 @@ fn all_cleared(n: usize, cols: usize, table: &[Symbol]) -> bool
     requires { (n ≤ 48) × (cols ≤ 48) × (n * cols ≤ length table.now) }
     ensures { result ≡ all_to n (λ s. not (ltb (pivot_of (row_of cols table.now s)) cols)) }
 {
-    let mut s = 0;
-    while s < n {
-        let b = s * cols;
-        let e = b + cols;
-        if !all_below(1, &table[b..e]) {
+    for s in 0..n {
+        let start = s * cols;
+        if !all_below(1, &table[start..start + cols]) {
             return false;
         }
-        s += 1;
     }
     true
 }
@@ -97,12 +92,8 @@ fn write_totals(q: Symbol, values: &[Symbol], units: &[Symbol], out: &mut [Symbo
     ensures { out.new ≡ tab (length out.old)
         (λ s. product_of q (opposite_of q (at values.now s)) (inverse_of q (at units.now s))) }
 {
-    let mut s = 0;
-    while s < out.len() {
-        let v = opposite_mod(q, values[s]);
-        let u = inverse_mod(q, units[s]);
-        out[s] = mul_mod(q, v, u);
-        s += 1;
+    for s in 0..out.len() {
+        out[s] = mul_mod(q, opposite_mod(q, values[s]), inverse_mod(q, units[s]));
     }
 }
 
@@ -111,19 +102,12 @@ fn write_totals(q: Symbol, values: &[Symbol], units: &[Symbol], out: &mut [Symbo
 fn write_start(n: usize, sums: &[Symbol], values: &mut [Symbol], units: &mut [Symbol])
     requires { (length values.old ≡ n + length sums.now) × (length units.old ≡ length values.old) }
     ensures values { values.new ≡ zeros n ++ sums.now }
-    ensures units { units.new ≡ tab (length units.old) (λ r. cond (ltb r n) 1 0) }
+    ensures units { units.new ≡ replicate n 1 ++ zeros (length units.old - n) }
 {
-    let mut r = 0;
-    while r < values.len() {
-        if r < n {
-            values[r] = 0;
-            units[r] = 1;
-        } else {
-            values[r] = sums[r - n];
-            units[r] = 0;
-        }
-        r += 1;
-    }
+    values[..n].fill(0);
+    values[n..].copy_from_slice(sums);
+    units[..n].fill(1);
+    units[n..].fill(0);
 }
 
 // Decodes in a table t, values and units that are lent; where some total is no combination nothing is written to out.
@@ -196,14 +180,10 @@ fn arrived_below(q: Symbol, count: usize, reported: u16, sums: &[Symbol]) -> boo
     requires { (count ≤ 8) × (length sums.now ≡ count) }
     ensures { result ≡ arrived_below q count reported sums.now }
 {
-    let mut j = 0;
-    while j < count {
-        if has_arrived(reported, j) {
-            if sums[j] >= q {
-                return false;
-            }
+    for j in 0..count {
+        if has_arrived(reported, j) && sums[j] >= q {
+            return false;
         }
-        j += 1;
     }
     true
 }
@@ -218,13 +198,7 @@ fn decode_lengths(
     requires { Counted ring }
     ensures { result ≡ lent_fits ring table.now weights.now sums.now out.now }
 {
-    if !lengths_fit(ring, table, weights) {
-        return false;
-    }
-    if sums.len() != ring.size {
-        return false;
-    }
-    out.len() == ring.parts
+    lengths_fit(ring, table, weights) && sums.len() == ring.size && out.len() == ring.parts
 }
 
 fn decode_below(
@@ -237,10 +211,7 @@ fn decode_below(
     requires { Counted ring × (length sums.now ≡ ring.size) }
     ensures { result ≡ lent_below ring table.now weights.now reported sums.now }
 {
-    if !both_below(ring.q, table, weights) {
-        return false;
-    }
-    arrived_below(ring.q, ring.size, reported, sums)
+    both_below(ring.q, table, weights) && arrived_below(ring.q, ring.size, reported, sums)
 }
 
 // Checks 4, 2 and 3. Sums are looked at only where there are K of them.
@@ -251,14 +222,14 @@ fn check_lent(
     reported: u16,
     sums: &[Symbol],
     out: &[Symbol],
-) -> Verdict
+) -> Result<(), Refusal>
     requires { Counted ring }
-    ensures { verdict_code result ≡ first_of (symbol_checks ring.q
+    ensures { code_of_result result ≡ first_of (symbol_checks ring.q
         (lent_fits ring table.now weights.now sums.now out.now)
         (lent_below ring table.now weights.now reported sums.now)) }
 {
     if !decode_lengths(ring, table, weights, sums, out) {
-        return Verdict::Refused(Refusal::WrongLength);
+        return Err(Refusal::WrongLength);
     }
     check_symbols(
         ring.q,
@@ -275,22 +246,13 @@ fn check_arrivals(
     reported: u16,
     sums: &[Symbol],
     out: &[Symbol],
-) -> Verdict
-    ensures { verdict_code result
+) -> Result<(), Refusal>
+    ensures { code_of_result result
         ≡ first_of (arrival_checks ring table.now weights.now reported sums.now out.now) }
 {
-    let counts = check_counts(ring);
-    if !counts.is_accepted() {
-        return counts;
-    }
-    let lent = check_lent(ring, table, weights, reported, sums, out);
-    if !lent.is_accepted() {
-        return lent;
-    }
-    if reported >> ring.size as u32 != 0 {
-        return Verdict::Refused(Refusal::UnknownNumber);
-    }
-    Verdict::Accepted
+    check_counts(ring)?;
+    check_lent(ring, table, weights, reported, sums, out)?;
+    refuse_unless(reported >> ring.size as u32 == 0, Refusal::UnknownNumber)
 }
 
 // The n totals, from the sums of the relays that have arrived.
@@ -301,17 +263,14 @@ pub fn decode(
     reported: u16,
     sums: &[Symbol],
     out: &mut [Symbol],
-) -> Verdict
-    ensures code { verdict_code result
+) -> Result<(), Refusal>
+    ensures code { code_of_result result
         ≡ first_of (decode_checks ring table.now weights.now reported sums.now out.old) }
     ensures out { out.new ≡ decoded_after ring table.now weights.now reported sums.now out.old }
 {
-    let verdict = check_arrivals(ring, table, weights, reported, sums, out);
-    if !verdict.is_accepted() {
-        return verdict;
-    }
-    if decode_here(ring, table, weights, reported, sums, out) {
-        return Verdict::Accepted;
-    }
-    Verdict::Refused(Refusal::NotDecodable)
+    check_arrivals(ring, table, weights, reported, sums, out)?;
+    refuse_unless(
+        decode_here(ring, table, weights, reported, sums, out),
+        Refusal::NotDecodable,
+    )
 }

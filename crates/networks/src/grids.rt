@@ -32,12 +32,10 @@ fn source_at(ring: Ring, table: &[Symbol], weights: &[Symbol], j: usize, s: usiz
     ensures { result ≡ on_source (network_of ring table.now weights.now) j s }
 {
     let mut sum: Symbol = 0;
-    let mut l = 0;
-    while l < ring.links {
+    for l in 0..ring.links {
         let k = (j + l) % ring.size;
         let w = weight_at(ring, table, weights, k, l, ring.parts);
         sum = mul_add_mod(ring.q, sum, w, table[k * ring.rate + s]);
-        l += 1;
     }
     sum
 }
@@ -56,9 +54,10 @@ fn reading_at(
 {
     let l = (k + (ring.size - j)) % ring.size;
     if l < ring.links {
-        return weight_at(ring, table, weights, k, l, s);
+        weight_at(ring, table, weights, k, l, s)
+    } else {
+        0
     }
-    0
 }
 
 // Column c of the row of link l of user k.
@@ -74,14 +73,14 @@ fn upload_at(
     ensures { result ≡ upload_entry (network_of ring table.now weights.now) k l c }
 {
     let m = ring.size * ring.parts;
-    if c < m {
-        if c / ring.parts == k {
-            return weight_at(ring, table, weights, k, l, c % ring.parts);
-        }
-        return 0;
+    if c >= m {
+        let w = weight_at(ring, table, weights, k, l, ring.parts);
+        mul_mod(ring.q, w, table[k * ring.rate + (c - m)])
+    } else if c / ring.parts == k {
+        weight_at(ring, table, weights, k, l, c % ring.parts)
+    } else {
+        0
     }
-    let w = weight_at(ring, table, weights, k, l, ring.parts);
-    mul_mod(ring.q, w, table[k * ring.rate + (c - m)])
 }
 
 // Column c of the row of a relay's sum.
@@ -91,9 +90,10 @@ fn relay_at(ring: Ring, table: &[Symbol], weights: &[Symbol], j: usize, c: usize
 {
     let m = ring.size * ring.parts;
     if c < m {
-        return reading_at(ring, table, weights, j, c / ring.parts, c % ring.parts);
+        reading_at(ring, table, weights, j, c / ring.parts, c % ring.parts)
+    } else {
+        source_at(ring, table, weights, j, c - m)
     }
-    source_at(ring, table, weights, j, c - m)
 }
 
 // Column c of the row of total symbol s.
@@ -101,12 +101,11 @@ fn total_at(ring: Ring, table: &[Symbol], weights: &[Symbol], s: usize, c: usize
     requires { Ready ring table.now weights.now }
     ensures { result ≡ total_entry (network_of ring table.now weights.now) s c }
 {
-    if c < ring.size * ring.parts {
-        if c % ring.parts == s {
-            return 1;
-        }
+    if c < ring.size * ring.parts && c % ring.parts == s {
+        1
+    } else {
+        0
     }
-    0
 }
 
 // How many rows observer w has, and how many of them are totals.
@@ -115,18 +114,16 @@ pub(crate) fn rows_seen(ring: Ring, w: usize) -> usize
     ensures { result ≡ rows_seen ring w }
 {
     if w == 0 {
-        return ring.parts + ring.size;
+        ring.parts + ring.size
+    } else {
+        ring.links
     }
-    ring.links
 }
 
 pub(crate) fn totals_seen(ring: Ring, w: usize) -> usize
     ensures { result ≡ totals_seen ring w }
 {
-    if w == 0 {
-        return ring.parts;
-    }
-    0
+    if w == 0 { ring.parts } else { 0 }
 }
 
 // Column c of row i of observer w.
@@ -141,13 +138,13 @@ fn entry_at(
     requires { Ready ring table.now weights.now × (w ≤ ring.size) × (i < rows_seen ring w) × (c < ring.size * ring.parts + ring.rate) }
     ensures { result ≡ entry_of (network_of ring table.now weights.now) w i c }
 {
-    if w == 0 {
-        if i < ring.parts {
-            return total_at(ring, table, weights, i, c);
-        }
-        return relay_at(ring, table, weights, i - ring.parts, c);
+    if w > 0 {
+        upload_at(ring, table, weights, (w - 1 + i) % ring.size, i, c)
+    } else if i < ring.parts {
+        total_at(ring, table, weights, i, c)
+    } else {
+        relay_at(ring, table, weights, i - ring.parts, c)
     }
-    upload_at(ring, table, weights, (w - 1 + i) % ring.size, i, c)
 }
 
 // Writes the rows of observer w from number `first` on, and in them the columns from `from` on.
@@ -165,10 +162,8 @@ pub(crate) fn fill_grid(
     ensures { out.new ≡ grid_of (network_of ring table.now weights.now) w first from (length out.old) }
 {
     let width = ring.size * ring.parts + ring.rate - from;
-    let mut t = 0;
-    while t < out.len() {
+    for t in 0..out.len() {
         out[t] = entry_at(ring, table, weights, w, first + t / width, from + t % width);
-        t += 1;
     }
 }
 

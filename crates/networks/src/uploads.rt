@@ -2,9 +2,8 @@
 ghost use Rattle.std.specs.Prelude.{◌≡◌, ◌&&◌, [], ◌-◌, ◌*◌, ◌+◌, ◌%◌, ◌<◌, length, leb, ltb, eqb};
 ghost use Rattle.lists.specs.Lists.{at};
 ghost use Rattle.lists.specs.Sums.{sum_to};
-ghost use Rattle.refusals.specs.Codes.{first_of, verdict_code, outcome};
+ghost use Rattle.refusals.specs.Codes.{first_of, code_of_result, outcome, outcome_of};
 ghost use Rattle.residues.specs.Primes.{all_below};
-ghost use Rattle.arithmetic.specs.Entries.{outcome_of};
 ghost use Rattle.cyclic.specs.Network.{linked};
 ghost use Rattle.networks.specs.Rings.{network_of, weights_fit, upload_checks, upload_of, uploaded, sum_checks, summed};
 ghost use Rattle.networks.specs.Machine.{Counted};
@@ -12,8 +11,8 @@ ghost use Rattle.networks.specs.Machine.{Counted};
 use crate::Ring;
 use crate::bounds::{check_counts, check_symbols};
 use crate::verdict::{both_below, weights_fit};
-use arithmetic::{Answer, Symbol, add_mod, all_below, mul_add_mod};
-use refusals::{Refusal, Verdict};
+use arithmetic::{Symbol, add_mod, all_below, mul_add_mod};
+use refusals::{Refusal, refuse_unless};
 
 // The combination of a reading and a key with the coefficients of link l of user k.
 fn combine(
@@ -30,12 +29,10 @@ fn combine(
 {
     let base = (k * ring.links + l) * (ring.parts + 1);
     let mut sum: Symbol = 0;
-    let mut s = 0;
-    while s < reading.len() {
+    for s in 0..ring.parts {
         sum = mul_add_mod(ring.q, sum, weights[base + s], reading[s]);
-        s += 1;
     }
-    mul_add_mod(ring.q, sum, weights[base + s], key)
+    mul_add_mod(ring.q, sum, weights[base + ring.parts], key)
 }
 
 // Whether the reading has n symbols and the coefficients are as many as the counts say.
@@ -43,19 +40,13 @@ fn upload_lengths(ring: Ring, weights: &[Symbol], reading: &[Symbol]) -> bool
     requires { Counted ring }
     ensures { result ≡ (weights_fit ring weights.now && eqb (length reading.now) ring.parts) }
 {
-    if !weights_fit(ring, weights) {
-        return false;
-    }
-    reading.len() == ring.parts
+    weights_fit(ring, weights) && reading.len() == ring.parts
 }
 
 fn upload_below(q: Symbol, weights: &[Symbol], reading: &[Symbol], key: Symbol) -> bool
     ensures { result ≡ (all_below q weights.now && all_below q reading.now && ltb key q) }
 {
-    if !both_below(q, weights, reading) {
-        return false;
-    }
-    key < q
+    both_below(q, weights, reading) && key < q
 }
 
 // Whether user and relay, counted from 1, are there and linked.
@@ -64,19 +55,11 @@ fn are_linked(ring: Ring, user: usize, relay: usize) -> bool
     ensures { result ≡ (leb 1 user && leb user ring.size && leb 1 relay && leb relay ring.size
         && linked (network_of ring [] []) (user - 1) (relay - 1)) }
 {
-    if user < 1 {
-        return false;
-    }
-    if user > ring.size {
-        return false;
-    }
-    if relay < 1 {
-        return false;
-    }
-    if relay > ring.size {
-        return false;
-    }
-    (user - 1 + (ring.size - (relay - 1))) % ring.size < ring.links
+    1 <= user
+        && user <= ring.size
+        && 1 <= relay
+        && relay <= ring.size
+        && (user - 1 + (ring.size - (relay - 1))) % ring.size < ring.links
 }
 
 fn check_upload(
@@ -86,23 +69,14 @@ fn check_upload(
     relay: usize,
     reading: &[Symbol],
     key: Symbol,
-) -> Verdict
-    ensures { verdict_code result ≡ first_of (upload_checks ring weights.now user relay reading.now key) }
+) -> Result<(), Refusal>
+    ensures { code_of_result result ≡ first_of (upload_checks ring weights.now user relay reading.now key) }
 {
-    let counts = check_counts(ring);
-    if !counts.is_accepted() {
-        return counts;
-    }
+    check_counts(ring)?;
     let lengths = upload_lengths(ring, weights, reading);
     let below = upload_below(ring.q, weights, reading, key);
-    let symbols = check_symbols(ring.q, lengths, below);
-    if !symbols.is_accepted() {
-        return symbols;
-    }
-    if !are_linked(ring, user, relay) {
-        return Verdict::Refused(Refusal::UnknownNumber);
-    }
-    Verdict::Accepted
+    check_symbols(ring.q, lengths, below)?;
+    refuse_unless(are_linked(ring, user, relay), Refusal::UnknownNumber)
 }
 
 // What a user sends to a relay that it is linked to.
@@ -113,21 +87,14 @@ pub fn upload(
     relay: usize,
     reading: &[Symbol],
     key: Symbol,
-) -> Answer
+) -> Result<Symbol, Refusal>
     ensures { outcome_of result ≡ outcome (upload_checks ring weights.now user relay reading.now key)
         (uploaded ring weights.now user relay reading.now key) }
 {
-    match check_upload(ring, weights, user, relay, reading, key) {
-        Verdict::Refused(refusal) => Answer::Refused(refusal),
-        Verdict::Accepted => Answer::Value(combine(
-            ring,
-            weights,
-            user - 1,
-            (user - 1 + (ring.size - (relay - 1))) % ring.size,
-            reading,
-            key,
-        )),
-    }
+    check_upload(ring, weights, user, relay, reading, key)?;
+    let k = user - 1;
+    let l = (k + (ring.size - (relay - 1))) % ring.size;
+    Ok(combine(ring, weights, k, l, reading, key))
 }
 
 fn add_all(q: Symbol, uploads: &[Symbol]) -> Symbol
@@ -135,21 +102,16 @@ fn add_all(q: Symbol, uploads: &[Symbol]) -> Symbol
     ensures { result ≡ sum_to (length uploads.now) (λ l. at uploads.now l) % q }
 {
     let mut sum: Symbol = 0;
-    let mut l = 0;
-    while l < uploads.len() {
-        sum = add_mod(q, sum, uploads[l]);
-        l += 1;
+    for &upload in uploads {
+        sum = add_mod(q, sum, upload);
     }
     sum
 }
 
-fn check_sum(ring: Ring, uploads: &[Symbol]) -> Verdict
-    ensures { verdict_code result ≡ first_of (sum_checks ring uploads.now) }
+fn check_sum(ring: Ring, uploads: &[Symbol]) -> Result<(), Refusal>
+    ensures { code_of_result result ≡ first_of (sum_checks ring uploads.now) }
 {
-    let counts = check_counts(ring);
-    if !counts.is_accepted() {
-        return counts;
-    }
+    check_counts(ring)?;
     check_symbols(
         ring.q,
         uploads.len() == ring.links,
@@ -158,11 +120,9 @@ fn check_sum(ring: Ring, uploads: &[Symbol]) -> Verdict
 }
 
 // The sum of a relay's d uploads.
-pub fn relay_sum(ring: Ring, uploads: &[Symbol]) -> Answer
+pub fn relay_sum(ring: Ring, uploads: &[Symbol]) -> Result<Symbol, Refusal>
     ensures { outcome_of result ≡ outcome (sum_checks ring uploads.now) (summed ring uploads.now) }
 {
-    match check_sum(ring, uploads) {
-        Verdict::Refused(refusal) => Answer::Refused(refusal),
-        Verdict::Accepted => Answer::Value(add_all(ring.q, uploads)),
-    }
+    check_sum(ring, uploads)?;
+    Ok(add_all(ring.q, uploads))
 }

@@ -113,7 +113,8 @@ pub fn first_leak(ring: Ring, table: &[Symbol], weights: &[Symbol]) -> usize {
         }
     }
     if leaks(ring, table, weights, 0) {
-        return 0;
+        0
+    } else {
+        wrapping_add_usize(size, 1)
     }
-    wrapping_add_usize(size, 1)
 }

@@ -2,7 +2,8 @@
 use crate::counting::sets;
 use crate::drawn::{FEW, few, pick, spoiled, table, tiny, weights, whole};
 use crate::expected::{
-    Lengths, TOTALS, both_below, compared, lengths_of, network_fits, number_of, refused, rest_fits,
+    Kind, Lengths, TOTALS, both_below, compared, lengths_of, network_fits, number_of, refused,
+    rest_fits,
 };
 use crate::network::{heard, totals_of};
 use crate::solving::{COLUMNS, decides};
@@ -63,10 +64,8 @@ fn lent(
 fn all_symbols(ring: Ring, reported: usize, sums: &[Symbol]) -> bool {
     let size = ring.size % FEW;
     for j in 0..size {
-        if has(reported, j) {
-            if at(sums, j) >= wide(ring.q) {
-                return false;
-            }
+        if has(reported, j) && at(sums, j) >= wide(ring.q) {
+            return false;
         }
     }
     true
@@ -91,7 +90,7 @@ fn searched(
     weights: &[Symbol],
     reported: usize,
     sums: &[Symbol],
-    mistake: usize,
+    mistaken: bool,
 ) -> usize {
     let before = [BEFORE; TOTALS];
     let n = clip(l.table, table.len());
@@ -102,17 +101,19 @@ fn searched(
     let fit = network_fits(ring, n, m) && rest_fits(ring, clip(l.sums, FEW), clip(l.out, TOTALS));
     let early = refused(ring, fit, below, outside);
     if early != 0 {
-        return lent(ring, l, table, weights, reported, sums, early, &before);
+        lent(ring, l, table, weights, reported, sums, early, &before)
+    } else if !worlds::decides(ring, table, weights, reported) {
+        lent(ring, l, table, weights, reported, sums, 23, &before)
+    } else {
+        let number = over(mistaken, 1, 0);
+        let expected = worlds::totals(ring, table, weights, reported, sums);
+        lent(ring, l, table, weights, reported, sums, number, &expected)
     }
-    if !worlds::decides(ring, table, weights, reported) {
-        return lent(ring, l, table, weights, reported, sums, 23, &before);
-    }
-    let expected = worlds::totals(ring, table, weights, reported, sums);
-    lent(ring, l, table, weights, reported, sums, mistake, &expected)
 }
 
-// Every roll of a tiny network, with two bits more; any sums, which some readings may give or none; with faults or without.
-pub fn tiny_decoded(case: usize, faulty: bool, mistake: usize) -> usize {
+// Every roll of a tiny network, with two bits more; any sums, which some readings may give or none.
+pub fn tiny_decoded(case: usize, kind: Kind) -> usize {
+    let faulty = kind == Kind::Faulty;
     let x = seed(case / 16);
     let y = state(x, case);
     let reported = case % 16;
@@ -122,11 +123,12 @@ pub fn tiny_decoded(case: usize, faulty: bool, mistake: usize) -> usize {
     let t = table(first, ring, x, faulty);
     let a = weights(first, ring, x, faulty);
     let sums = strewn(x, reported, few(first, ring, y, ring.size, faulty));
-    searched(ring, l, &t, &a, reported, &sums, mistake)
+    let mistaken = kind == Kind::Mistaken;
+    searched(ring, l, &t, &a, reported, &sums, mistaken)
 }
 
 // The readings and the source symbols of a network of every size, one after the other as they are drawn.
-fn drawn(ring: Ring, x: usize) -> [Symbol; COLUMNS] {
+fn drawn_symbols(ring: Ring, x: usize) -> [Symbol; COLUMNS] {
     let mut t = [0 as Symbol; COLUMNS];
     for i in 0..COLUMNS {
         t[i] = narrow(testing::residue(state(x, i), wide(ring.q)));
@@ -141,7 +143,7 @@ fn sums_of(
     weights: &[Symbol],
     readings: &[Symbol],
 ) -> [Symbol; FEW] {
-    let source = drawn(ring, state(x, 32));
+    let source = drawn_symbols(ring, state(x, 32));
     let mut t = [0 as Symbol; FEW];
     for j in 0..FEW {
         t[j] = narrow(heard(ring, table, weights, readings, &source, j, false));
@@ -163,9 +165,10 @@ fn solved(
     let expected = totals_of(ring, readings);
     let l = lengths_of(ring, x, false);
     if decides(ring, table, weights, reported) {
-        return lent(ring, l, table, weights, reported, sums, 0, &expected);
+        lent(ring, l, table, weights, reported, sums, 0, &expected)
+    } else {
+        lent(ring, l, table, weights, reported, sums, 23, &before)
     }
-    lent(ring, l, table, weights, reported, sums, 23, &before)
 }
 
 // A network of every size, with the sums of readings.
@@ -175,7 +178,7 @@ pub fn whole_decoded(case: usize) -> usize {
     let reported = pick(x, 33, sets(2, ring.size));
     let t = table(ring, ring, x, false);
     let a = weights(ring, ring, x, false);
-    let readings = drawn(ring, state(x, 31));
+    let readings = drawn_symbols(ring, state(x, 31));
     let sums = strewn(x, reported, sums_of(ring, x, &t, &a, &readings));
     solved(ring, x, &t, &a, reported, &sums, &readings)
 }

@@ -120,9 +120,10 @@ fn in_table(ring: Ring, x: usize, i: usize) -> usize {
     let y = state(x, 8);
     let last = wrapping_sub_usize(ring.size, 1);
     if is_closed(x) && quotient(i, ring.rate) == last {
-        return closing(ring, y, residue(i, ring.rate));
+        closing(ring, y, residue(i, ring.rate))
+    } else {
+        symbol(ring, y, i)
     }
-    symbol(ring, y, i)
 }
 
 // Coefficient i: that of user k for link l, or, of a closed network, that of the relay there.

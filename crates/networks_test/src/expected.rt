@@ -1,8 +1,8 @@
 // What every entry asks first, and what a comparison says.
 use crate::drawn::{coefficients, length, rows};
-use arithmetic::{Answer, Symbol};
+use arithmetic::Symbol;
 use networks::Ring;
-use refusals::{Code, Verdict};
+use refusals::{Code, Refusal};
 use testing::{count_large, is_outside, is_prime, over, wide};
 
 // What a comparison says where the two differ; otherwise it says the number that was answered.
@@ -11,8 +11,16 @@ pub const DIFFER: usize = 24;
 // How many places are lent for totals: one more than there can be.
 pub const TOTALS: usize = 5;
 
+// What is wrong in a kind of cases: nothing, or some by chance in what the library gets; or, by a mistake, what is expected of it.
+#[derive(Clone, Copy, Debug, PartialEq, Eq)]
+pub enum Kind {
+    Sound,
+    Faulty,
+    Mistaken,
+}
+
 // How long the parts are that are lent.
-#[derive(Clone, Copy)]
+#[derive(Clone, Copy, Debug, PartialEq, Eq)]
 pub struct Lengths {
     pub table: usize,
     pub weights: usize,
@@ -23,18 +31,19 @@ pub struct Lengths {
 // Of a faulty call some length may be wrong.
 pub fn lengths_of(ring: Ring, x: usize, faulty: bool) -> Lengths {
     if faulty {
-        return Lengths {
+        Lengths {
             table: length(rows(ring), x, 15),
             weights: length(coefficients(ring), x, 16),
             sums: length(ring.size, x, 17),
             out: length(ring.parts, x, 18),
-        };
-    }
-    Lengths {
-        table: rows(ring),
-        weights: coefficients(ring),
-        sums: ring.size,
-        out: ring.parts,
+        }
+    } else {
+        Lengths {
+            table: rows(ring),
+            weights: coefficients(ring),
+            sums: ring.size,
+            out: ring.parts,
+        }
     }
 }
 
@@ -76,14 +85,14 @@ pub fn plain(code: Code) -> usize {
     )
 }
 
-pub fn number_of(verdict: Verdict) -> usize {
-    plain(refusals::verdict_code(verdict))
+pub fn number_of(verdict: Result<(), Refusal>) -> usize {
+    plain(refusals::code_of_result(&verdict))
 }
 
 // An answer held to a number, and where that is 0 to a value.
-pub fn answered(answer: Answer, number: usize, value: usize) -> usize {
+pub fn answered(answer: Result<Symbol, Refusal>, number: usize, value: usize) -> usize {
     match answer {
-        Answer::Value(found) => compared(0, number, wide(found) == value),
-        Answer::Refused(refusal) => compared(plain(refusals::code_of(refusal)), number, true),
+        Ok(found) => compared(0, number, wide(found) == value),
+        Err(refusal) => compared(plain(refusal.code()), number, true),
     }
 }

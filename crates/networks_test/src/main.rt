@@ -15,46 +15,104 @@ mod vets;
 mod worlds;
 
 use decodes::{tiny_decoded, whole_decoded};
-use expected::DIFFER;
+use expected::{DIFFER, Kind};
 use sends::{summed, uploaded};
 use std::io;
 use std::num::wrapping_add_usize;
-use testing::{clip, print_counts};
+use testing::report;
 use vets::vetted;
 
-// The last two are no kinds of their own: with a mistake in what is expected.
-fn outcome(kind: usize, case: usize) -> usize {
-    match kind {
-        0 => vetted(case, false, 0),
-        1 => vetted(wrapping_add_usize(case, 100000), true, 0),
-        2 => uploaded(case),
-        3 => summed(case),
-        4 => tiny_decoded(case, false, 0),
-        5 => tiny_decoded(wrapping_add_usize(case, 100000), true, 0),
-        6 => whole_decoded(case),
-        7 => vetted(case, false, 1),
-        _ => tiny_decoded(case, false, 1),
-    }
+// Cases from here on have faults.
+const FAULTS: usize = 100000;
+
+fn vettings(rt: &impl Print) -> io::Result<()> {
+    report(
+        rt,
+        "tiny networks vetted:         ",
+        "answered",
+        DIFFER,
+        0..4000,
+        |case| { vetted(case, Kind::Sound) },
+    )?;
+    report(
+        rt,
+        "the same with faults:         ",
+        "answered",
+        DIFFER,
+        0..4000,
+        |case| { vetted(wrapping_add_usize(case, FAULTS), Kind::Faulty) },
+    )
 }
 
-fn report(rt: &impl Print, name: &str, kind: usize, cases: usize) -> io::Result<()> {
-    let mut tally = [0usize; DIFFER + 1];
-    for case in 0..cases {
-        let n = clip(outcome(kind, case), DIFFER);
-        tally[n] = wrapping_add_usize(tally[n], 1);
-    }
-    print!(rt; "{name}")?;
-    print_counts(rt, "answered", &tally)
+fn sent_symbols(rt: &impl Print) -> io::Result<()> {
+    report(
+        rt,
+        "uploads:                      ",
+        "answered",
+        DIFFER,
+        0..20000,
+        uploaded,
+    )?;
+    report(
+        rt,
+        "relay sums:                   ",
+        "answered",
+        DIFFER,
+        0..8000,
+        summed,
+    )
+}
+
+fn decodings(rt: &impl Print) -> io::Result<()> {
+    report(
+        rt,
+        "tiny networks, every roll:    ",
+        "answered",
+        DIFFER,
+        0..8000,
+        |case| { tiny_decoded(case, Kind::Sound) },
+    )?;
+    report(
+        rt,
+        "the same with faults:         ",
+        "answered",
+        DIFFER,
+        0..8000,
+        |case| { tiny_decoded(wrapping_add_usize(case, FAULTS), Kind::Faulty) },
+    )?;
+    report(
+        rt,
+        "networks of every size:       ",
+        "answered",
+        DIFFER,
+        0..600,
+        whole_decoded,
+    )
+}
+
+// A mistake is in what is expected.
+fn mistakes(rt: &impl Print) -> io::Result<()> {
+    report(
+        rt,
+        "vetted, a mistake expected:   ",
+        "answered",
+        DIFFER,
+        0..200,
+        |case| { vetted(case, Kind::Mistaken) },
+    )?;
+    report(
+        rt,
+        "decoded, a mistake expected:  ",
+        "answered",
+        DIFFER,
+        0..200,
+        |case| { tiny_decoded(case, Kind::Mistaken) },
+    )
 }
 
 fn main(rt: HostRuntime) -> io::Result<()> {
-    report(&rt, "tiny networks vetted:         ", 0, 4000)?;
-    report(&rt, "the same with faults:         ", 1, 4000)?;
-    report(&rt, "uploads:                      ", 2, 20000)?;
-    report(&rt, "relay sums:                   ", 3, 8000)?;
-    report(&rt, "tiny networks, every roll:    ", 4, 8000)?;
-    report(&rt, "the same with faults:         ", 5, 8000)?;
-    report(&rt, "networks of every size:       ", 6, 600)?;
-    report(&rt, "vetted, a mistake expected:   ", 7, 200)?;
-    report(&rt, "decoded, a mistake expected:  ", 8, 200)
+    vettings(&rt)?;
+    sent_symbols(&rt)?;
+    decodings(&rt)?;
+    mistakes(&rt)
 }

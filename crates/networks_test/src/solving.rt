@@ -35,11 +35,12 @@ fn cell(
     let readings = unit(c);
     let source = unit(wrapping_sub_usize(c, product(ring.size, ring.parts)));
     if r < Ring::MAX_PARTS {
-        return over(r < ring.parts, total_of(ring, &readings, r), 0);
+        over(r < ring.parts, total_of(ring, &readings, r), 0)
+    } else {
+        let j = r - Ring::MAX_PARTS;
+        let sum = heard(ring, table, weights, &readings, &source, j, false);
+        over(has(reported, j), sum, 0)
     }
-    let j = r - Ring::MAX_PARTS;
-    let sum = heard(ring, table, weights, &readings, &source, j, false);
-    over(has(reported, j), sum, 0)
 }
 
 // The rows of all totals, and then those of the relays that have arrived.

@@ -53,16 +53,14 @@ fn wanted(
     want: usize,
 ) -> bool {
     if want < ring.size {
-        return heard(ring, table, weights, readings, source, want, false) != 0;
+        heard(ring, table, weights, readings, source, want, false) != 0
+    } else {
+        want > ring.size || has_total(ring, readings)
     }
-    if want == ring.size {
-        return has_total(ring, readings);
-    }
-    true
 }
 
 // How many readings there are, and with how many source keys.
-fn worlds(ring: Ring) -> usize {
+fn world_count(ring: Ring) -> usize {
     sets(
         wide(ring.q),
         wrapping_add_usize(product(ring.size, ring.parts), ring.rate),
@@ -78,7 +76,7 @@ fn find(
     sums: &[Symbol],
     want: usize,
 ) -> usize {
-    let many = worlds(ring);
+    let many = world_count(ring);
     let first = sets(wide(ring.q), product(ring.size, ring.parts));
     for n in 0..many {
         let readings = digits(wide(ring.q), residue(n, first));
@@ -100,7 +98,7 @@ fn kept(ring: Ring, table: &[Symbol], weights: &[Symbol], reported: usize) -> us
     for j in 0..size {
         let lower = residue(reported, sets(2, j));
         if has(reported, j) {
-            if find(ring, table, weights, lower, &zeros, j) < worlds(ring) {
+            if find(ring, table, weights, lower, &zeros, j) < world_count(ring) {
                 mask = wrapping_add_usize(mask, sets(2, j));
             }
         }
@@ -111,7 +109,7 @@ fn kept(ring: Ring, table: &[Symbol], weights: &[Symbol], reported: usize) -> us
 // Whether totals are 0 whenever all sums that have arrived are.
 pub fn decides(ring: Ring, table: &[Symbol], weights: &[Symbol], reported: usize) -> bool {
     let zeros = [0 as Symbol; SYMBOLS];
-    find(ring, table, weights, reported, &zeros, ring.size) == worlds(ring)
+    find(ring, table, weights, reported, &zeros, ring.size) == world_count(ring)
 }
 
 // The totals of any readings and source key that give the sums of the relays that are kept.

@@ -17,12 +17,11 @@ const BYTE: Symbol = 256;
 fn byte_at(bytes: &[u8], i: usize, k: usize) -> Symbol
     ensures { (result ≡ at bytes.now (i + k)) × (result < 256) }
 {
-    if i < bytes.len() {
-        if k < bytes.len() - i {
-            return bytes[i + k] as Symbol;
-        }
+    if i < bytes.len() && k < bytes.len() - i {
+        bytes[i + k] as Symbol
+    } else {
+        0
     }
-    0
 }
 
 // The number of up to four bytes from a place on, low first. A byte past the end is 0, and there is no number of more bytes: 0.
@@ -33,9 +32,7 @@ pub fn number_at(width: usize, bytes: &[u8], i: usize) -> Symbol
         return 0;
     }
     let mut n: Symbol = 0;
-    let mut k = width;
-    while k > 0 {
-        k -= 1;
+    for k in (0..width).rev() {
         n = n * BYTE + byte_at(bytes, i, k);
     }
     n
@@ -45,16 +42,7 @@ pub fn number_at(width: usize, bytes: &[u8], i: usize) -> Symbol
 fn row_fits(width: usize, count: usize, from: usize, room: usize) -> bool
     ensures { result ≡ row_in_range width count from room }
 {
-    if width > WIDEST {
-        return false;
-    }
-    if from > room {
-        return false;
-    }
-    if width == 0 {
-        return true;
-    }
-    count <= (room - from) / width
+    width <= WIDEST && from <= room && (width == 0 || count <= (room - from) / width)
 }
 
 // Number k of `count`, and 0 past them.
@@ -63,9 +51,10 @@ fn symbol_at(width: usize, bytes: &[u8], from: usize, count: usize, k: usize) ->
     ensures { result ≡ at (numbers_at width count bytes.now from) k }
 {
     if k < count {
-        return number_at(width, bytes, from + width * k);
+        number_at(width, bytes, from + width * k)
+    } else {
+        0
     }
-    0
 }
 
 // Fills a table with `count` numbers, and 0 past them.
@@ -73,10 +62,8 @@ fn fill(width: usize, bytes: &[u8], from: usize, count: usize, table: &mut [Symb
     requires { (width ≤ 4) × (from + width * count ≤ length bytes.now) × (count ≤ length table.old) }
     ensures { table.new ≡ numbers_at width count bytes.now from ++ zeros (length table.old - count) }
 {
-    let mut k = 0;
-    while k < table.len() {
-        table[k] = symbol_at(width, bytes, from, count, k);
-        k += 1;
+    for (k, symbol) in table.iter_mut().enumerate() {
+        *symbol = symbol_at(width, bytes, from, count, k);
     }
 }
 
@@ -86,10 +73,8 @@ pub fn read_numbers(width: usize, bytes: &[u8], from: usize, count: usize, table
         ≡ cond (row_in_range width count from (length bytes.now) && leb count (length table.old))
         (numbers_at width count bytes.now from ++ zeros (length table.old - count)) table.old }
 {
-    if row_fits(width, count, from, bytes.len()) {
-        if count <= table.len() {
-            fill(width, bytes, from, count, table);
-        }
+    if row_fits(width, count, from, bytes.len()) && count <= table.len() {
+        fill(width, bytes, from, count, table);
     }
 }
 
@@ -98,11 +83,9 @@ pub fn write_number(n: Symbol, out: &mut [u8])
     ensures { out.new ≡ bytes_of (length out.old) (cut (length out.old) n) }
 {
     let mut left = n;
-    let mut k = 0;
-    while k < out.len() {
-        out[k] = (left % BYTE) as u8;
+    for byte in out.iter_mut() {
+        *byte = (left % BYTE) as u8;
         left /= BYTE;
-        k += 1;
     }
 }
 
@@ -110,11 +93,9 @@ fn write_all(width: usize, numbers: &[Symbol], out: &mut [u8])
     requires { length out.old ≡ width * length numbers.now }
     ensures { out.new ≡ bytes_of_all width (map (cut width) numbers.now) }
 {
-    let mut k = 0;
-    while k < numbers.len() {
+    for (k, &number) in numbers.iter().enumerate() {
         let i = width * k;
-        write_number(numbers[k], &mut out[i..i + width]);
-        k += 1;
+        write_number(number, &mut out[i..i + width]);
     }
 }
 
@@ -124,9 +105,7 @@ pub fn write_numbers(width: usize, numbers: &[Symbol], out: &mut [u8])
         ≡ cond (leb width 4 && eqb (length out.old) (width * length numbers.now))
         (bytes_of_all width (map (cut width) numbers.now)) out.old }
 {
-    if row_fits(width, numbers.len(), 0, out.len()) {
-        if out.len() == width * numbers.len() {
-            write_all(width, numbers, out);
-        }
+    if row_fits(width, numbers.len(), 0, out.len()) && out.len() == width * numbers.len() {
+        write_all(width, numbers, out);
     }
 }

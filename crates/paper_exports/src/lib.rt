@@ -10,7 +10,7 @@ ghost use Rattle.boundary.specs.Counts.{counts_of};
 ghost use Rattle.paper_exports.specs.States.{run_of, numbers_of};
 
 use arithmetic::Symbol;
-use boundary::{PLAN_NUMBERS, pack_verdict, plan_of};
+use boundary::{PLAN_NUMBERS, pack, plan_of};
 use plans::Plan;
 use records::READ_TABLE;
 use simulation::Run;
@@ -30,9 +30,8 @@ const STATE: usize = 3;
 fn run_of(plan: [Symbol; PLAN_NUMBERS], table: [Symbol; READ_TABLE], numbers: [u32; NUMBERS]) -> Run
     ensures { result ≡ run_of plan table numbers }
 {
-    let pool = plan_of(plan);
     Run {
-        plan: pool,
+        plan: plan_of(plan),
         table,
         cap: numbers[CAP],
         rounds: numbers[ROUNDS],
@@ -74,19 +73,19 @@ pub extern "C" fn kortyghai_paper_open(
     ensures table { table.new ≡ if_accepted (input_code bytes.now) (run_in bytes.now).table table.old }
     ensures run { run.new ≡ if_accepted (input_code bytes.now) (numbers_of (run_in bytes.now)) run.old }
 {
-    let opening = simulation::open(bytes);
-    let verdict = opening.answer;
-    if verdict.is_accepted() {
-        let first = opening.run;
-        let pool = first.plan;
-        let symbols = first.table;
-        let counts = counts_of(pool);
-        let numbers = numbers_of(first);
-        *plan = counts;
-        *table = symbols;
-        *run = numbers;
+    match simulation::open(bytes) {
+        Ok(first) => {
+            // Variables: the prover covers no array that is stored straight from a field or a call.
+            let counts = counts_of(first.plan);
+            let symbols = first.table;
+            let numbers = numbers_of(first);
+            *plan = counts;
+            *table = symbols;
+            *run = numbers;
+            0
+        }
+        Err(refusal) => pack(refusal.code()),
     }
-    pack_verdict(verdict)
 }
 
 // The next round's line in the lent places, and the run after it, where nothing is refused. The run may be anything.
@@ -106,17 +105,17 @@ pub extern "C" fn kortyghai_paper_line(
     ensures length { length.new ≡ if_accepted (line_code (run_of plan.now table.now run.old))
         (next_line (run_of plan.now table.now run.old)).length length.old }
 {
-    let asked = run_of(*plan, *table, *run);
-    let next = simulation::next_line(asked);
-    let answer = next.answer;
-    if answer.is_accepted() {
-        let written = next.line;
-        let text = written.text;
-        let after = next.run;
-        let numbers = numbers_of(after);
-        *run = numbers;
-        *line = text;
-        *length = written.length;
+    let mut next = run_of(*plan, *table, *run);
+    match simulation::next_line(&mut next) {
+        Ok(written) => {
+            // Variables, for the same reason.
+            let numbers = numbers_of(next);
+            let text = written.text;
+            *run = numbers;
+            *line = text;
+            *length = written.length;
+            0
+        }
+        Err(refusal) => pack(refusal.code()),
     }
-    pack_verdict(answer)
 }

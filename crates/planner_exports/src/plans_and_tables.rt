@@ -11,21 +11,16 @@ ghost use Rattle.planner_exports.specs.Asked.{prime_checks, joint_of, asked_code
 
 use crate::records_of_plans::counts_of;
 use arithmetic::Symbol;
-use boundary::{PLAN_NUMBERS, pack, pack_verdict, plan_of};
-use keys::Needed;
-use plans::Planned;
-use refusals::{Refusal, Verdict, code_of};
-use vetting::{Joint, PairCount};
+use boundary::{PLAN_NUMBERS, hand_over, pack, pack_verdict, plan_of};
+use refusals::{Refusal, refuse_unless};
+use vetting::RelayPair;
 
 // Whether q may be a plan's: 2 where it is no prime.
 #[unsafe(no_mangle)]
 pub extern "C" fn kortyghai_check_prime(q: Symbol) -> u64
     ensures { result ≡ packed (first_of (prime_checks q)) }
 {
-    if primes::is_prime(q) {
-        return pack_verdict(Verdict::Accepted);
-    }
-    pack(code_of(Refusal::NotPrime))
+    pack_verdict(refuse_unless(primes::is_prime(q), Refusal::NotPrime))
 }
 
 // The vet's verdict on a plan and its key table.
@@ -36,13 +31,14 @@ pub extern "C" fn kortyghai_vet(plan: &[Symbol; PLAN_NUMBERS], table: &[Symbol])
     pack_verdict(vetting::vet(plan_of(*plan), table))
 }
 
-fn joint_of(first: usize, second: usize) -> Joint
+fn joint_of(first: usize, second: usize) -> Option<RelayPair>
     ensures { result ≡ joint_of first second }
 {
     if first == 0 && second == 0 {
-        return Joint::None;
+        None
+    } else {
+        Some(RelayPair { first, second })
     }
-    Joint::Relays { first, second }
 }
 
 // The same with the number of pairs that were looked at, and with two relays under one lock, if any are; two zeros stand for none.
@@ -58,9 +54,8 @@ pub extern "C" fn kortyghai_vet_joint(
     ensures looked { looked.new ≡ joint_looked (plan_of plan.now) table.now (joint_of first second) }
 {
     let report = vetting::vet_joint(plan_of(*plan), table, joint_of(first, second));
-    let verdict = report.verdict;
     *looked = report.looked;
-    pack_verdict(verdict)
+    pack_verdict(report.verdict)
 }
 
 // How many pairs the vet looks at before it accepts a plan with these counts.
@@ -74,13 +69,7 @@ pub extern "C" fn kortyghai_count_pairs(
     ensures code { result ≡ packed (first_of (count_checks clusters size limit)) }
     ensures out { out.new ≡ if_accepted (first_of (count_checks clusters size limit)) (pair_count clusters size limit) out.old }
 {
-    match vetting::count_pairs(clusters, size, limit) {
-        PairCount::Refused(refusal) => pack(code_of(refusal)),
-        PairCount::Pairs(pairs) => {
-            *out = pairs;
-            pack_verdict(Verdict::Accepted)
-        }
-    }
+    hand_over(vetting::count_pairs(clusters, size, limit), out)
 }
 
 // The rate that the table maker will need for these counts.
@@ -89,13 +78,7 @@ pub extern "C" fn kortyghai_rate(clusters: usize, size: usize, limit: usize, out
     ensures code { result ≡ packed (first_of (rate_checks clusters size limit)) }
     ensures out { out.new ≡ if_accepted (first_of (rate_checks clusters size limit)) (rate_of clusters size limit) out.old }
 {
-    match keys::rate_needed(clusters, size, limit) {
-        Needed::Refused(refusal) => pack(code_of(refusal)),
-        Needed::Rate(rate) => {
-            *out = rate;
-            pack_verdict(Verdict::Accepted)
-        }
-    }
+    hand_over(keys::rate_needed(clusters, size, limit), out)
 }
 
 // The table maker: fills the lent table and the plan's rate, where nothing is refused. What stood in the rate's place decides nothing.
@@ -119,11 +102,10 @@ pub extern "C" fn kortyghai_make_table(
         generator,
         table,
     ) {
-        Planned::Refused(refusal) => pack(code_of(refusal)),
-        Planned::Made(made) => {
-            let counts = counts_of(made);
-            *plan = counts;
-            pack_verdict(Verdict::Accepted)
+        Ok(made) => {
+            *plan = counts_of(made);
+            0
         }
+        Err(refusal) => pack(refusal.code()),
     }
 }

@@ -8,8 +8,7 @@ ghost use Rattle.boundary.specs.Counts.{plan_of, counts_of};
 
 use arithmetic::Symbol;
 use boundary::{PLAN_NUMBERS, pack, pack_verdict, plan_of};
-use plans::{Plan, Planned};
-use refusals::{Verdict, code_of};
+use plans::Plan;
 
 // What the program `vet` says of the record at the end of the bytes.
 #[unsafe(no_mangle)]
@@ -46,12 +45,11 @@ pub extern "C" fn kortyghai_read_record(
     ensures table { table.new ≡ table_after bytes.now table.old }
 {
     match records::read_record(bytes, table) {
-        Planned::Refused(refusal) => pack(code_of(refusal)),
-        Planned::Made(made) => {
-            let counts = counts_of(made);
-            *plan = counts;
-            pack_verdict(Verdict::Accepted)
+        Ok(made) => {
+            *plan = counts_of(made);
+            0
         }
+        Err(refusal) => pack(refusal.code()),
     }
 }
 

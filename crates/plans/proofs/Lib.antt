@@ -1,3 +1,2 @@
-pub mod OnePlan
 pub mod PlanBounds
 pub mod TableLaws

@@ -1,12 +1,10 @@
 -- The plan (document 01: "The pool and its plan"): its counts, their bounds, and the checks of a key table.
 use Rattle.std.specs.Prelude.{ℕ, ◌*◌, ◌≤◌, ◌<◌, Bool, not, ◌&&◌, List, [], ◌∷◌, leb, eqb, length}
 use Rattle.refusals.specs.declared.Code.{Code}
-use Rattle.refusals.specs.Codes.{code, accepted, code_of, first_of, if_accepted}
+use Rattle.refusals.specs.Codes.{code, first_of, if_accepted}
 use Rattle.lists.specs.Search.{one_of}
 use Rattle.residues.specs.Primes.{Prime, is_prime, all_below}
 use Rattle.plans.specs.declared.Plan.{Plan}
-use Rattle.plans.specs.declared.Planned.{Planned}
-use Rattle.plans.specs.declared.Planned.TheVariants.{Made, Refused}
 
 abbrev pub users_of : Plan → ℕ
 users_of P = P.clusters * P.size
@@ -62,15 +60,6 @@ plan_code P = first_of (plan_checks P)
 -- the plan, where nothing is refused
 abbrev pub plan_made : Plan → Plan
 plan_made P = if_accepted (plan_code P) P no_plan
-
--- what the constructor's answer says: its refusal, and its plan, which is nothing but zeros where it refuses
-abbrev pub planned_code : Planned → Code
-planned_code (Made P) = accepted
-planned_code (Refused r) = code_of r
-
-abbrev pub planned_plan : Planned → Plan
-planned_plan (Made P) = P
-planned_plan (Refused r) = no_plan
 
 -- a plan and its key table: 1, 4, 2, 3
 abbrev pub table_checks : Plan → List ℕ → List (Bool × Code)

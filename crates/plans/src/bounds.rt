@@ -1,45 +1,33 @@
 // The bounds of a plan and of a block, and the plan's constructor.
 ghost use Rattle.std.specs.Prelude.{◌≡◌, ◌^◌};
+ghost use Rattle.std.specs.Result.{result_unwrap_or};
 ghost use Rattle.lists.specs.Search.{one_of};
-ghost use Rattle.plans.specs.Plans.{plan, plan_code, plan_made, planned_code, planned_plan, counts_fit, length_fits, in_bounds};
+ghost use Rattle.refusals.specs.Codes.{code_of_result};
+ghost use Rattle.plans.specs.Plans.{plan, plan_code, plan_made, no_plan, counts_fit, length_fits, in_bounds};
 ghost use Rattle.plans.specs.Plans.{max_clusters, max_size, max_users, max_rate, max_length, LargestPrime};
 
-use crate::{Plan, Planned};
+use crate::Plan;
 use arithmetic::Symbol;
 use primes::is_prime;
-use refusals::Refusal;
+use refusals::{Refusal, refuse_unless};
 
 // Whether U, V and T are within their bounds.
 pub fn counts_fit(clusters: usize, size: usize, limit: usize) -> bool
     ensures { result ≡ counts_fit clusters size limit }
 {
-    if clusters < 1 {
-        return false;
-    }
-    if clusters > Plan::MAX_CLUSTERS {
-        return false;
-    }
-    if size < 1 {
-        return false;
-    }
-    if size > Plan::MAX_SIZE {
-        return false;
-    }
-    let users = clusters * size;
-    if users > Plan::MAX_USERS {
-        return false;
-    }
-    limit <= users
+    1 <= clusters
+        && clusters <= Plan::MAX_CLUSTERS
+        && 1 <= size
+        && size <= Plan::MAX_SIZE
+        && clusters * size <= Plan::MAX_USERS
+        && limit <= clusters * size
 }
 
 // Whether x is one of 1 to n.
 pub fn one_of(n: usize, x: usize) -> bool
     ensures { result ≡ one_of n x }
 {
-    if x < 1 {
-        return false;
-    }
-    x <= n
+    1 <= x && x <= n
 }
 
 // Whether a block may have this length.
@@ -68,37 +56,35 @@ impl Plan {
     pub fn in_bounds(self) -> bool
         ensures { result ≡ in_bounds self }
     {
-        if !counts_fit(self.clusters, self.size, self.limit) {
-            return false;
-        }
-        if self.rate < 1 {
-            return false;
-        }
-        self.rate <= Plan::MAX_RATE
+        counts_fit(self.clusters, self.size, self.limit)
+            && 1 <= self.rate
+            && self.rate <= Plan::MAX_RATE
     }
 
     // The plan with these counts, where they are within their bounds and q is a prime. The promise also fixes the bounds that stand above by name.
-    pub fn new(clusters: usize, size: usize, limit: usize, rate: usize, q: Symbol) -> Planned
-        ensures code { planned_code result ≡ plan_code (plan clusters size limit rate q) }
-        ensures plan { planned_plan result ≡ plan_made (plan clusters size limit rate q) }
+    pub fn new(
+        clusters: usize,
+        size: usize,
+        limit: usize,
+        rate: usize,
+        q: Symbol,
+    ) -> Result<Plan, Refusal>
+        ensures code { code_of_result result ≡ plan_code (plan clusters size limit rate q) }
+        ensures plan { result_unwrap_or result no_plan ≡ plan_made (plan clusters size limit rate q) }
         ensures clusters { (Plan.MAX_CLUSTERS ≡ max_clusters) × (Plan.MAX_SIZE ≡ max_size) }
         ensures users { (Plan.MAX_USERS ≡ max_users) × (Plan.MAX_RATE ≡ max_rate) }
         ensures length { Plan.MAX_LENGTH ≡ max_length }
         ensures prime { LargestPrime (2 ^ 32) Plan.MAX_Q }
     {
-        let made = Plan {
+        let plan = Plan {
             clusters,
             size,
             limit,
             rate,
             q,
         };
-        if !made.in_bounds() {
-            return Planned::Refused(Refusal::OutOfBounds);
-        }
-        if !is_prime(q) {
-            return Planned::Refused(Refusal::NotPrime);
-        }
-        Planned::Made(made)
+        refuse_unless(plan.in_bounds(), Refusal::OutOfBounds)?;
+        refuse_unless(is_prime(q), Refusal::NotPrime)?;
+        Ok(plan)
     }
 }

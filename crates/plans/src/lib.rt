@@ -6,22 +6,14 @@ mod tables;
 
 use arithmetic::Symbol;
 pub use bounds::{counts_fit, length_fits, one_of};
-use refusals::Refusal;
 pub use tables::check_plan;
 
 // U clusters of V users each, a coalition limit T, R source symbols a position, and a prime q. Key tables are lent beside it.
-#[derive(Clone, Copy)]
+#[derive(Clone, Copy, Debug, PartialEq, Eq)]
 pub struct Plan {
     pub clusters: usize,
     pub size: usize,
     pub limit: usize,
     pub rate: usize,
     pub q: Symbol,
-}
-
-// What the plan's constructor, the table maker and the reader of a record answer.
-#[derive(Clone, Copy)]
-pub enum Planned {
-    Made(Plan),
-    Refused(Refusal),
 }

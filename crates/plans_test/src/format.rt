@@ -39,10 +39,11 @@ fn byte_of(n: usize, k: usize) -> usize {
 fn number_byte(s: Shape, t: &[Symbol], place: usize) -> usize {
     if s.wide {
         let symbol = at(t, wrapping_sub_usize(place, WIDE_HEAD) / WIDE_WIDTH);
-        return byte_of(over(place < WIDE_HEAD, s.q, symbol), place % WIDE_WIDTH);
+        byte_of(over(place < WIDE_HEAD, s.q, symbol), place % WIDE_WIDTH)
+    } else {
+        let symbol = at(t, wrapping_sub_usize(place, OLD_HEAD) / OLD_WIDTH);
+        byte_of(over(place < OLD_HEAD, s.q, symbol), place % OLD_WIDTH)
     }
-    let symbol = at(t, wrapping_sub_usize(place, OLD_HEAD) / OLD_WIDTH);
-    byte_of(over(place < OLD_HEAD, s.q, symbol), place % OLD_WIDTH)
 }
 
 // The byte at a place of the record. Its last four bytes are one number, with the marks in the upper half.
@@ -82,9 +83,10 @@ pub fn start(b: &[u8]) -> usize {
     }
     let distance = word_at(b, n - 4);
     if distance < least_distance(word_at(b, n - 2)) || distance > n {
-        return n;
+        n
+    } else {
+        n - distance
     }
-    n - distance
 }
 
 // A number by its two halves; an old record has the lower alone.

@@ -1,7 +1,7 @@
 // Individual keys: products by halves, and sums in 64 bits from the last symbol to the first, reduced once.
 use crate::making::table;
-use crate::numbers::{UNTOUCHED, compared, verdict_said, wrong_length};
-use crate::shapes::{Shape, TABLE_AND_ONE, plan_of, shape_of, spoil, symbols, users};
+use crate::numbers::{Length, UNTOUCHED, compared, drawn_length, length_of, verdict_said};
+use crate::shapes::{Shape, TABLE_AND_ONE, drawn_damage, plan_of, shape_of, spoil, symbols, users};
 use arithmetic::Symbol;
 use keys::derive_keys;
 use std::num::wrapping_add_usize;
@@ -15,45 +15,29 @@ use vetting::vet;
 const ROOM: usize = 1100;
 
 // With the maker's rate, but for the last, which is out of bounds. No coalition is large, so that the walk is short.
+static COUNTS: [usize; 10] = [
+    2010001, 2020103, 3020103, 2030205, 8020108, 2080109, 4040004, 8010507, 5030105, 9010008,
+];
+
 fn counts(n: usize) -> usize {
-    match n {
-        0 => 2010001,
-        1 => 2020103,
-        2 => 3020103,
-        3 => 2030205,
-        4 => 8020108,
-        5 => 2080109,
-        6 => 4040004,
-        7 => 8010507,
-        8 => 5030105,
-        _ => 9010008,
-    }
+    COUNTS[clip(n, 9)]
 }
 
 // How many moduli there are, half of them of 32 bits.
 const MODULI: usize = 10;
 
+static MODULUS: [usize; 10] = [
+    5, 257, 4099, 65519, 65521, 65537, 16777259, 2147483647, 4294967279, 4294967291,
+];
+
 fn modulus(n: usize) -> usize {
-    match n {
-        0 => 5,
-        1 => 257,
-        2 => 4099,
-        3 => 65519,
-        4 => 65521,
-        5 => 65537,
-        6 => 16777259,
-        7 => 2147483647,
-        8 => 4294967279,
-        _ => 4294967291,
-    }
+    MODULUS[clip(n, 9)]
 }
 
 // The key of user i at position p.
 fn key(s: Shape, t: &[Symbol], source: &[Symbol], i: usize, p: usize) -> usize {
     let mut sum: usize = 0;
-    let mut k = s.rate;
-    while k > 0 {
-        k -= 1;
+    for k in (0..s.rate).rev() {
         let symbol = at(t, mul_add(k, i, s.rate));
         let key = at(source, mul_add(k, p, s.rate));
         sum = wrapping_add_usize(sum, product_mod(s.q, symbol, key));
@@ -120,18 +104,19 @@ fn drawn_table(s: Shape, x: usize) -> [Symbol; TABLE_AND_ONE] {
 fn drawn_source(q: usize, many: usize, x: usize) -> [Symbol; ROOM] {
     let mut source = [0 as Symbol; ROOM];
     fill(&mut source, q, x);
-    spoil(&mut source, draw(step(x), many), q, draw(seed(x), 32));
+    let spoiled = drawn_damage(draw(seed(x), 32));
+    spoil(&mut source, draw(step(x), many), q, spoiled);
     source
 }
 
 // One too long, one too short or right: both blocks by themselves.
-pub fn dealt(s: Shape, many: usize, x: usize, kind: usize) -> usize {
+pub fn dealt(s: Shape, many: usize, x: usize, source_length: Length, keys_length: Length) -> usize {
     let length = product(many, s.rate);
     let t = drawn_table(s, seed(x));
     let source = drawn_source(s.q, length, seed(step(x)));
     let n = clip(symbols(s), TABLE_AND_ONE);
-    let m = clip(wrong_length(length, kind % 16), ROOM);
-    let k = clip(wrong_length(product(many, users(s)), kind / 16), ROOM);
+    let m = clip(length_of(length, source_length), ROOM);
+    let k = clip(length_of(product(many, users(s)), keys_length), ROOM);
     let mut keys = [UNTOUCHED; ROOM];
     judged(s, &t[..n], many, &source[..m], &mut keys[..k])
 }
@@ -139,10 +124,12 @@ pub fn dealt(s: Shape, many: usize, x: usize, kind: usize) -> usize {
 // L is in turn from 0 to 65. The blocks have the right length, but for one of eight.
 pub fn derived(number: usize) -> usize {
     let x = seed(seed(number));
+    let lengths = draw(seed(number), 256);
     dealt(
         drawn_shape(number, x),
         number / 10 % 66,
         x,
-        draw(seed(number), 256),
+        drawn_length(lengths % 16),
+        drawn_length(lengths / 16),
     )
 }

@@ -1,5 +1,7 @@
 // The table maker, for all counts up to one past the bounds: powers by repeated multiplication, and sums of whole columns.
-use crate::numbers::{UNTOUCHED, compared, holds, planned_said, verdict_said, wrong_length};
+use crate::numbers::{
+    UNTOUCHED, compared, drawn_length, holds, length_of, planned_said, verdict_said,
+};
 use crate::shapes::{
     LEAST_WIDE, Shape, TABLE_AND_ONE, counts_number, plan_of, prime_number, symbols, users,
 };
@@ -17,27 +19,13 @@ const PRIME_MODULI: usize = 12;
 const MODULI: usize = 18;
 
 // The first 3 leave so few powers that plans with many users leak at once.
+static MODULUS: [usize; 18] = [
+    2, 3, 5, 7, 13, 257, 65521, 65537, 1048583, 2147483647, 4294967279, 4294967291, 0, 1, 9, 65535,
+    4294967293, 4294967295,
+];
+
 fn modulus(n: usize) -> usize {
-    match n {
-        0 => 2,
-        1 => 3,
-        2 => 5,
-        3 => 7,
-        4 => 13,
-        5 => 257,
-        6 => 65521,
-        7 => 65537,
-        8 => 1048583,
-        9 => 2147483647,
-        10 => 4294967279,
-        11 => 4294967291,
-        12 => 0,
-        13 => 1,
-        14 => 9,
-        15 => 65535,
-        16 => 4294967293,
-        _ => 4294967295,
-    }
+    MODULUS[clip(n, 17)]
 }
 
 // Those below q are right, the fifth where q has more than 16 bits.
@@ -153,8 +141,8 @@ fn judged(s: Shape, generator: usize, t: &mut [Symbol]) -> usize {
 // The right length, but for one of eight.
 pub fn made(number: usize) -> usize {
     let s = shape(number);
-    let length = wrong_length(symbols(s) % TABLE_AND_ONE, draw(seed(number), 16));
-    let n = clip(length, TABLE_AND_ONE);
+    let length = drawn_length(draw(seed(number), 16));
+    let n = clip(length_of(symbols(s) % TABLE_AND_ONE, length), TABLE_AND_ONE);
     let mut t = [UNTOUCHED; TABLE_AND_ONE];
     judged(s, generator_of(s.q, number / SHAPES), &mut t[..n])
 }

@@ -2,11 +2,13 @@
 // largest size.
 use crate::individual::dealt;
 use crate::making::table;
-use crate::numbers::{UNTOUCHED, compared, holds, planned_said, verdict_said, wrong_length};
+use crate::numbers::{
+    Length, UNTOUCHED, compared, drawn_length, holds, length_of, planned_said, verdict_said,
+};
 use crate::reading::judged;
 use crate::shapes::{
-    SPOILS, Shape, TABLE, TABLE_AND_ONE, WRONG_SHAPES, bounds_number, drawn_shape, plan_of,
-    prime_number, shape_of, spoil, symbols, wrong_shape,
+    SPOILS, Shape, TABLE, TABLE_AND_ONE, WRONG_SHAPES, bounds_number, drawn_damage, drawn_shape,
+    plan_of, prime_number, shape_of, spoil, symbols, wrong_shape,
 };
 use arithmetic::Symbol;
 use keys::make_table;
@@ -54,17 +56,19 @@ fn table_checked(s: Shape, t: &[Symbol], length: usize) -> usize {
 // The table is right, too long, too short, or has a number that may be no symbol.
 pub fn checked(number: usize) -> usize {
     let s = any_shape(number / 4 / SPOILS);
-    let n = clip(wrong_length(symbols(s), number % 4), TABLE_AND_ONE);
+    let length = drawn_length(number % 4);
+    let n = clip(length_of(symbols(s), length), TABLE_AND_ONE);
     let mut t = [0 as Symbol; TABLE_AND_ONE];
     fill(&mut t, s.q, number);
-    spoil(&mut t, number % TABLE, s.q, number % SPOILS);
+    spoil(&mut t, number % TABLE, s.q, drawn_damage(number % SPOILS));
     table_checked(s, &t[..n], number % 70)
 }
 
 // The small pool with blocks of the longest length, of one more, and of none; the blocks have the right length.
 fn length_case(positions: usize, expected: usize) -> usize {
+    let pool = shape_of(2020103, 5);
     compared(
-        dealt(shape_of(2020103, 5), positions, 1, 255),
+        dealt(pool, positions, 1, Length::Right, Length::Right),
         expected,
         true,
     )
@@ -116,22 +120,19 @@ fn record_case(number: usize) -> usize {
     }
 }
 
+static MODULUS: [usize; 7] = [65521, 65535, 1, 65537, 4294967291, 4294967293, 4294967295];
+
+static MODULUS_ANSWER: [usize; 7] = [0, 2, 2, 0, 0, 2, 2];
+
 // Whether q is taken.
 fn modulus_case(number: usize) -> usize {
-    match number {
-        0 => new_plan(shape_of(2020103, 65521), 0),
-        1 => new_plan(shape_of(2020103, 65535), 2),
-        2 => new_plan(shape_of(2020103, 1), 2),
-        3 => new_plan(shape_of(2020103, 65537), 0),
-        4 => new_plan(shape_of(2020103, 4294967291), 0),
-        5 => new_plan(shape_of(2020103, 4294967293), 2),
-        _ => new_plan(shape_of(2020103, 4294967295), 2),
-    }
+    let n = clip(number, 6);
+    new_plan(shape_of(2020103, MODULUS[n]), MODULUS_ANSWER[n])
 }
 
 pub const CASES: usize = 21;
 
-pub fn named(number: usize) -> usize {
+pub fn tried(number: usize) -> usize {
     match number {
         0..=6 => modulus_case(number),
         7..=13 => record_case(number - 7),

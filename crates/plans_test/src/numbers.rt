@@ -2,8 +2,8 @@
 // Every function takes every number, so that a loop that calls it has nothing to show.
 use crate::shapes::Shape;
 use arithmetic::Symbol;
-use plans::Planned;
-use refusals::{Code, Verdict};
+use plans::Plan;
+use refusals::{Code, Refusal};
 use testing::{at, over, wide, wide16};
 
 // What a comparison says where the two differ; otherwise it says the number that was answered.
@@ -12,13 +12,30 @@ pub const DIFFER: usize = 15;
 // What a lent table or block holds before a call, everywhere: no symbol modulo a prime.
 pub const UNTOUCHED: Symbol = 4294967295;
 
-// One too long, one too short, or right; what is empty can only be too long.
-pub fn wrong_length(n: usize, kind: usize) -> usize {
+// How long the part is that a call gets.
+#[derive(Clone, Copy, Debug, PartialEq, Eq)]
+pub enum Length {
+    OneMore,
+    OneLess,
+    Right,
+}
+
+// The first two are wrong, and all others are right.
+pub fn drawn_length(number: usize) -> Length {
+    match number {
+        0 => Length::OneMore,
+        1 => Length::OneLess,
+        _ => Length::Right,
+    }
+}
+
+// What is empty can only be too long.
+pub fn length_of(n: usize, length: Length) -> usize {
     let m = n % 65536;
-    match kind {
-        0 => m + 1,
-        1 => { if m == 0 { 5 } else { m - 1 } }
-        _ => m,
+    match length {
+        Length::OneMore => m + 1,
+        Length::OneLess => { if m == 0 { 5 } else { m - 1 } }
+        Length::Right => m,
     }
 }
 
@@ -28,14 +45,14 @@ fn said(code: Code) -> usize {
     details * 16 + wide16(code.number) % 16
 }
 
-pub fn verdict_said(verdict: Verdict) -> usize {
-    said(refusals::verdict_code(verdict))
+pub fn verdict_said(verdict: Result<(), Refusal>) -> usize {
+    said(refusals::code_of_result(&verdict))
 }
 
 // 0 where it is the plan of the shape, and what no refusal says where it is another one.
-pub fn planned_said(planned: Planned, s: Shape) -> usize {
+pub fn planned_said(planned: Result<Plan, Refusal>, s: Shape) -> usize {
     match planned {
-        Planned::Made(p) => {
+        Ok(p) => {
             let counts = (p.clusters ^ s.clusters) | (p.size ^ s.size) | (p.limit ^ s.limit);
             over(
                 (counts | (p.rate ^ s.rate) | (wide(p.q) ^ s.q)) == 0,
@@ -43,7 +60,7 @@ pub fn planned_said(planned: Planned, s: Shape) -> usize {
                 DIFFER,
             )
         }
-        Planned::Refused(refusal) => said(refusals::code_of(refusal)),
+        Err(refusal) => said(refusal.code()),
     }
 }
 

@@ -15,7 +15,7 @@ const ROOM: usize = 1120;
 
 // A buffer is a part of the drawn bytes before, a record, and drawn bytes: where it starts, its length, the byte that is changed, and what is added
 // to it. `lent` is the length of the lent table.
-#[derive(Clone, Copy)]
+#[derive(Clone, Copy, Debug, PartialEq, Eq)]
 pub struct Reading {
     pub number: usize,
     pub shape: Shape,
@@ -73,13 +73,33 @@ pub fn cut(number: usize) -> Reading {
     }
 }
 
-fn lent_length(kind: usize, count: usize) -> usize {
-    match kind {
-        0 => 0,
-        1 => 255,
-        2 => 257,
-        3 => count % 256,
-        _ => 256,
+// How long the lent table is: right, or empty, one symbol too short, one too long, or with just as many as the record has.
+#[derive(Clone, Copy, Debug, PartialEq, Eq)]
+enum LentTable {
+    Right,
+    Empty,
+    OneLess,
+    OneMore,
+    AsTheRecord,
+}
+
+fn drawn_lent_table(number: usize) -> LentTable {
+    match number {
+        0 => LentTable::Empty,
+        1 => LentTable::OneLess,
+        2 => LentTable::OneMore,
+        3 => LentTable::AsTheRecord,
+        _ => LentTable::Right,
+    }
+}
+
+fn lent_length(table: LentTable, count: usize) -> usize {
+    match table {
+        LentTable::Right => TABLE,
+        LentTable::Empty => 0,
+        LentTable::OneLess => TABLE - 1,
+        LentTable::OneMore => TABLE_AND_ONE,
+        LentTable::AsTheRecord => count % TABLE,
     }
 }
 
@@ -94,7 +114,7 @@ pub fn lent(number: usize) -> Reading {
         length: size,
         place: draw(seed(number), size),
         change: number % 2,
-        lent: lent_length(number % 8, symbols(shape)),
+        lent: lent_length(drawn_lent_table(number % 8), symbols(shape)),
     }
 }
 

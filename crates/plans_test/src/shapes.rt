@@ -2,7 +2,9 @@
 use arithmetic::Symbol;
 use plans::Plan;
 use primes::is_prime;
-use testing::{PRIMES, draw, is_outside, narrow, over, prime, product, put, quotient, seed, step};
+use testing::{
+    PRIMES, clip, draw, is_outside, narrow, over, prime, product, put, quotient, seed, step,
+};
 
 // The least q of a wide record.
 pub const LEAST_WIDE: usize = 65536;
@@ -18,7 +20,7 @@ pub const TABLE: usize = 256;
 pub const TABLE_AND_ONE: usize = 257;
 
 // The counts of a plan and its q, all as numbers of one type. Its record is wide by its q, but where a test writes or reads it otherwise.
-#[derive(Clone, Copy)]
+#[derive(Clone, Copy, Debug, PartialEq, Eq)]
 pub struct Shape {
     pub clusters: usize,
     pub size: usize,
@@ -102,47 +104,23 @@ pub fn shape_of(digits: usize, q: usize) -> Shape {
 }
 
 // The first 4 are right.
+static COUNTS: [usize; 16] = [
+    2020103, 8021616, 1010001, 2080316, 20003, 9010003, 2000003, 1090003, 3060003, 8080001,
+    2020503, 2020100, 2020117, 99990001, 17010001, 2029903,
+];
+
 fn counts(n: usize) -> usize {
-    match n {
-        0 => 2020103,
-        1 => 8021616,
-        2 => 1010001,
-        3 => 2080316,
-        4 => 20003,
-        5 => 9010003,
-        6 => 2000003,
-        7 => 1090003,
-        8 => 3060003,
-        9 => 8080001,
-        10 => 2020503,
-        11 => 2020100,
-        12 => 2020117,
-        13 => 99990001,
-        14 => 17010001,
-        _ => 2029903,
-    }
+    COUNTS[clip(n, 15)]
 }
 
 // The first 8 are primes, 4 of each width. Of the others one is the square of the largest prime of 16 bits.
+static MODULUS: [usize; 16] = [
+    2, 5, 257, 65521, 65537, 2147483647, 4294967279, 4294967291, 0, 1, 9, 65535, 65536, 4293001441,
+    4294967293, 4294967295,
+];
+
 fn modulus(n: usize) -> usize {
-    match n {
-        0 => 2,
-        1 => 5,
-        2 => 257,
-        3 => 65521,
-        4 => 65537,
-        5 => 2147483647,
-        6 => 4294967279,
-        7 => 4294967291,
-        8 => 0,
-        9 => 1,
-        10 => 9,
-        11 => 65535,
-        12 => 65536,
-        13 => 4293001441,
-        14 => 4294967293,
-        _ => 4294967295,
-    }
+    MODULUS[clip(n, 15)]
 }
 
 // 16 counts with 16 moduli.
@@ -152,16 +130,35 @@ pub fn wrong_shape(number: usize) -> Shape {
     shape_of(counts(number % 16), modulus(number / 16 % 16))
 }
 
-// How many kinds of symbols `spoil` makes, the one that it leaves among them.
+// What a symbol becomes: q, the largest number, or one at the edge of 16 bits, which is right for a larger q.
+#[derive(Clone, Copy, Debug, PartialEq, Eq)]
+pub enum Damage {
+    Modulus,
+    Largest,
+    LargestOld,
+    LeastWide,
+}
+
+// How many numbers `drawn_damage` tells apart, of which the last spoils nothing.
 pub const SPOILS: usize = 5;
 
-// One symbol becomes q, the largest number, or one at the edge of 16 bits, which is right for a larger q; or it stays.
-pub fn spoil(t: &mut [Symbol], place: usize, q: usize, kind: usize) {
-    match kind {
-        0 => put(t, place, q),
-        1 => put(t, place, 4294967295),
-        2 => put(t, place, 65535),
-        3 => put(t, place, 65536),
-        _ => {}
+pub fn drawn_damage(number: usize) -> Option<Damage> {
+    match number {
+        0 => Some(Damage::Modulus),
+        1 => Some(Damage::Largest),
+        2 => Some(Damage::LargestOld),
+        3 => Some(Damage::LeastWide),
+        _ => None,
+    }
+}
+
+// One symbol becomes what is drawn, or it stays.
+pub fn spoil(t: &mut [Symbol], place: usize, q: usize, damage: Option<Damage>) {
+    match damage {
+        Some(Damage::Modulus) => put(t, place, q),
+        Some(Damage::Largest) => put(t, place, 4294967295),
+        Some(Damage::LargestOld) => put(t, place, LEAST_WIDE - 1),
+        Some(Damage::LeastWide) => put(t, place, LEAST_WIDE),
+        None => {}
     }
 }

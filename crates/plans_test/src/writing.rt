@@ -1,9 +1,11 @@
 // The writer of records: right and wrong inputs in all combinations, then drawn plans. What is written is read back.
 use crate::format::{record_byte, write_refusal};
-use crate::numbers::{UNTOUCHED, compared, holds, planned_said, verdict_said, wrong_length};
+use crate::numbers::{
+    UNTOUCHED, compared, drawn_length, holds, length_of, planned_said, verdict_said,
+};
 use crate::shapes::{
-    SPOILS, Shape, TABLE, TABLE_AND_ONE, WRONG_SHAPES, drawn_shape, plan_of, record_size, spoil,
-    symbols, wrong_shape,
+    SPOILS, Shape, TABLE, TABLE_AND_ONE, WRONG_SHAPES, drawn_damage, drawn_shape, plan_of,
+    record_size, spoil, symbols, wrong_shape,
 };
 use arithmetic::Symbol;
 use records::{read_record, write_record};
@@ -46,8 +48,8 @@ fn judged(s: Shape, t: &[Symbol], b: &mut [u8]) -> usize {
 
 // First what is wrong, of which the last is right in all but the shape. The others are right.
 pub fn written(number: usize) -> usize {
-    let kind = clip(number, WRONG - 1);
-    let s = if number > kind {
+    let wrong = clip(number, WRONG - 1);
+    let s = if number > wrong {
         drawn_shape(number)
     } else {
         wrong_shape(number)
@@ -57,11 +59,10 @@ pub fn written(number: usize) -> usize {
     let mut t = [0 as Symbol; TABLE_AND_ONE];
     let mut b = [UNWRITTEN; ROOM];
     fill(&mut t, s.q, x);
-    spoil(&mut t, draw(x, n), s.q, kind / WITH_LENGTHS);
-    let k = clip(wrong_length(n, kind / WRONG_SHAPES % 3), TABLE_AND_ONE);
-    let m = clip(
-        wrong_length(record_size(s), kind / WRONG_SHAPES / 3 % 3),
-        ROOM,
-    );
+    spoil(&mut t, draw(x, n), s.q, drawn_damage(wrong / WITH_LENGTHS));
+    let table = drawn_length(wrong / WRONG_SHAPES % 3);
+    let buffer = drawn_length(wrong / WRONG_SHAPES / 3 % 3);
+    let k = clip(length_of(n, table), TABLE_AND_ONE);
+    let m = clip(length_of(record_size(s), buffer), ROOM);
     judged(s, &t[..k], &mut b[..m])
 }

@@ -1,4 +1,3 @@
-pub mod Sizes
 pub mod Words
 pub mod Powers
 pub mod Exact

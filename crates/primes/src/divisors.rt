@@ -12,7 +12,8 @@ const LOW: usize = 53;
 
 const HIGH: usize = 203;
 
-const LOW_INVERSES: [u32; LOW] = [
+// A constant table would be written to the stack at each call, a static is not.
+static LOW_INVERSES: [u32; LOW] = [
     2863311531, 3435973837, 3067833783, 3123612579, 3303820997, 4042322161, 678152731, 3921491879,
     1332920885, 3186588639, 2437684141, 3247414297, 799063683, 1736263375, 2350076445, 2693454067,
     3238827797, 128207979, 3811027319, 3353604601, 1631000239, 724452315, 4198451177, 1594008481,
@@ -22,7 +23,7 @@ const LOW_INVERSES: [u32; LOW] = [
     1200340205, 534566745, 1132146191, 285143057, 2583824947,
 ];
 
-const LOW_LIMITS: [u32; LOW] = [
+static LOW_LIMITS: [u32; LOW] = [
     1431655765, 858993459, 613566756, 390451572, 330382099, 252645135, 226050910, 186737708,
     148102320, 138547332, 116080197, 104755299, 99882960, 91382282, 81037118, 72796055, 70409299,
     64103989, 60492497, 58835168, 54366674, 51746593, 48258059, 44278013, 42524428, 41698711,
@@ -31,7 +32,7 @@ const LOW_LIMITS: [u32; LOW] = [
     21582750, 20355295, 19259943, 18920560, 18755315, 18433336, 17970574, 17821441, 17111423,
 ];
 
-const HIGH_INVERSES: [u32; HIGH] = [
+static HIGH_INVERSES: [u32; HIGH] = [
     4278255361, 1894358199, 1644541381, 2725957103, 635717181, 122276649, 3384373523, 2228105901,
     3343639035, 2803467399, 960535817, 1869733397, 3217981539, 4129286065, 1893746387, 4048837365,
     2591580833, 705858135, 3077864847, 3143501533, 317306291, 3969760895, 3963735885, 2931829061,
@@ -60,7 +61,7 @@ const HIGH_INVERSES: [u32; HIGH] = [
     3959464581, 233450971, 2596587261,
 ];
 
-const HIGH_LIMITS: [u32; HIGH] = [
+static HIGH_LIMITS: [u32; HIGH] = [
     16711935, 16330674, 15966421, 15848587, 15505297, 15284581, 15176562, 14658591, 13990121,
     13810184, 13721940, 13548792, 12975732, 12744710, 12377427, 12306496, 12167046, 11963697,
     11702908, 11514657, 11332367, 11214013, 11041047, 10818557, 10710641, 10501142, 10250518,
@@ -90,28 +91,21 @@ fn any_exact(q: u32, inverses: &[u32], limits: &[u32]) -> bool
     ensures { result ≡ some_exact q inverses.now limits.now }
 {
     let mut found = false;
-    let mut i = 0;
-    while i < inverses.len() {
+    for i in 0..inverses.len() {
         let x = q as u64 * inverses[i] as u64 % WORD;
         found = found | (x <= limits[i] as u64);
-        i += 1;
     }
     found
 }
 
-// A constant table is written to the stack wherever it is named: here once, before the loop.
 pub(crate) fn low_divisor(q: u32) -> bool
     ensures { result ≡ some_divides q low_primes }
 {
-    let inverses = LOW_INVERSES;
-    let limits = LOW_LIMITS;
-    any_exact(q, &inverses, &limits)
+    any_exact(q, &LOW_INVERSES, &LOW_LIMITS)
 }
 
 pub(crate) fn high_divisor(q: u32) -> bool
     ensures { result ≡ some_divides q high_primes }
 {
-    let inverses = HIGH_INVERSES;
-    let limits = HIGH_LIMITS;
-    any_exact(q, &inverses, &limits)
+    any_exact(q, &HIGH_INVERSES, &HIGH_LIMITS)
 }

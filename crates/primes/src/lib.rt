@@ -47,10 +47,8 @@ pub(crate) fn power_of_two(q: u32) -> u32
 {
     let n = q as u64;
     let e = q - 1;
-    let mut s = LATER_BITS;
     let mut x = (1u64 << (e >> LATER_BITS)) % n;
-    while s > 0 {
-        s -= 1;
+    for s in (0..LATER_BITS).rev() {
         x = squared(n, x, (e >> s) % 2);
     }
     x as u32
@@ -73,10 +71,8 @@ pub fn is_prime(q: u32) -> bool
     ensures { result ≡ is_prime q }
 {
     if q < SMALL {
-        return small_prime(q);
+        small_prime(q)
+    } else {
+        q % 2 == 1 && large_prime(q)
     }
-    if q % 2 == 0 {
-        return false;
-    }
-    large_prime(q)
 }

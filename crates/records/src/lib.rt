@@ -2,18 +2,19 @@
 #![tactic(auto)]
 
 ghost use Rattle.std.specs.Prelude.{◌≡◌, true, false, ◌&&◌, [], ◌∷◌, ◌++◌, ◌+◌, ◌-◌, ◌*◌, ◌^◌, ◌≤◌, ◌<◌, eqb, length};
-ghost use Rattle.refusals.specs.Codes.{accepted, verdict_code};
+ghost use Rattle.std.specs.Result.{result_unwrap_or};
+ghost use Rattle.refusals.specs.Codes.{accepted, code_of_result};
 ghost use Rattle.residues.specs.Primes.{is_prime, all_below};
-ghost use Rattle.plans.specs.Plans.{users_of, in_bounds, planned_code, planned_plan};
+ghost use Rattle.plans.specs.Plans.{users_of, in_bounds, no_plan};
 ghost use Rattle.numerals.specs.Bytes.{bytes_of, numbers_at};
 ghost use Rattle.records.specs.Records.{width_of, mark_of, size_with, width_in, record_of, distance, start};
 ghost use Rattle.records.specs.Records.{bad_trailer, plan_read, read_code, plan_after, table_after, write_code, bytes_after};
 
 use arithmetic::Symbol;
 use numerals::{number_at, read_numbers, write_number, write_numbers};
-use plans::{Plan, Planned, check_plan};
+use plans::{Plan, check_plan};
 use primes::is_prime;
-use refusals::{Refusal, Verdict};
+use refusals::{Refusal, refuse_unless};
 
 // The bytes that q and each symbol have: in an old record, and in a wide one.
 const NARROW: usize = 2;
@@ -87,18 +88,12 @@ fn bad_trailer(bytes: &[u8]) -> bool
     if n < TRAILER {
         return true;
     }
-    if bytes[n - 2] != FIRST_MARK {
-        return true;
-    }
     let width = width_in(bytes);
-    if bytes[n - 1] != mark_of(width) {
-        return true;
-    }
     let distance = distance_in(bytes);
-    if distance < COUNTS + width + TRAILER {
-        return true;
-    }
-    n < distance
+    bytes[n - 2] != FIRST_MARK
+        || bytes[n - 1] != mark_of(width)
+        || distance < COUNTS + width + TRAILER
+        || n < distance
 }
 
 // The place of the record's first byte.
@@ -106,8 +101,7 @@ fn start_in(bytes: &[u8]) -> usize
     requires { bad_trailer bytes.now ≡ false }
     ensures { result ≡ start bytes.now }
 {
-    let distance = distance_in(bytes);
-    bytes.len() - distance
+    bytes.len() - distance_in(bytes)
 }
 
 // The plan that the record's first bytes say.
@@ -146,14 +140,10 @@ fn numbers_below(q: Symbol, width: usize, bytes: &[u8], from: usize, count: usiz
     requires { (width ≤ 4) × (from + width * count ≤ length bytes.now) }
     ensures { result ≡ all_below q (numbers_at width count bytes.now from) }
 {
-    let mut i = from;
-    let mut left = count;
-    while left > 0 {
-        if number_at(width, bytes, i) >= q {
+    for k in 0..count {
+        if number_at(width, bytes, from + width * k) >= q {
             return false;
         }
-        i += width;
-        left -= 1;
     }
     true
 }
@@ -162,64 +152,43 @@ fn numbers_below(q: Symbol, width: usize, bytes: &[u8], from: usize, count: usiz
 fn check_prime(width: usize, q: Symbol) -> bool
     ensures { result ≡ is_prime q && eqb width (width_of q) }
 {
-    if !is_prime(q) {
-        return false;
-    }
-    width == width_of(q)
+    is_prime(q) && width == width_of(q)
 }
 
 // The reader's checks. The symbols are tested where they lie, so that a refusal writes nothing.
-fn check_record(bytes: &[u8], table: &[Symbol]) -> Planned
-    ensures code { planned_code result ≡ read_code bytes.now table.now }
-    ensures plan { planned_plan result ≡ plan_after bytes.now table.now }
+fn check_record(bytes: &[u8], table: &[Symbol]) -> Result<Plan, Refusal>
+    ensures code { code_of_result result ≡ read_code bytes.now table.now }
+    ensures plan { result_unwrap_or result no_plan ≡ plan_after bytes.now table.now }
 {
-    if bad_trailer(bytes) {
-        return Planned::Refused(Refusal::BadTrailer);
-    }
+    refuse_unless(!bad_trailer(bytes), Refusal::BadTrailer)?;
     let plan = plan_in(bytes);
-    if !plan.in_bounds() {
-        return Planned::Refused(Refusal::OutOfBounds);
-    }
+    refuse_unless(plan.in_bounds(), Refusal::OutOfBounds)?;
     let width = width_in(bytes);
-    if distance_in(bytes) != size_with(width, plan) {
-        return Planned::Refused(Refusal::WrongLength);
-    }
-    if table.len() != READ_TABLE {
-        return Planned::Refused(Refusal::WrongLength);
-    }
-    if !check_prime(width, plan.q) {
-        return Planned::Refused(Refusal::NotPrime);
-    }
-    if !numbers_below(
-        plan.q,
-        width,
-        bytes,
-        start_in(bytes) + COUNTS + width,
-        symbols(plan),
-    ) {
-        return Planned::Refused(Refusal::NotASymbol);
-    }
-    Planned::Made(plan)
+    refuse_unless(
+        distance_in(bytes) == size_with(width, plan),
+        Refusal::WrongLength,
+    )?;
+    refuse_unless(table.len() == READ_TABLE, Refusal::WrongLength)?;
+    refuse_unless(check_prime(width, plan.q), Refusal::NotPrime)?;
+    let start = start_in(bytes) + COUNTS + width;
+    refuse_unless(
+        numbers_below(plan.q, width, bytes, start, symbols(plan)),
+        Refusal::NotASymbol,
+    )?;
+    Ok(plan)
 }
 
 // The plan of the record at the buffer's end, whose key table is put in the lent table.
-pub fn read_record(bytes: &[u8], table: &mut [Symbol]) -> Planned
-    ensures code { planned_code result ≡ read_code bytes.now table.old }
-    ensures plan { planned_plan result ≡ plan_after bytes.now table.old }
+pub fn read_record(bytes: &[u8], table: &mut [Symbol]) -> Result<Plan, Refusal>
+    ensures code { code_of_result result ≡ read_code bytes.now table.old }
+    ensures plan { result_unwrap_or result no_plan ≡ plan_after bytes.now table.old }
     ensures table { table.new ≡ table_after bytes.now table.old }
 {
-    let planned = check_record(bytes, table);
-    if let Planned::Made(plan) = planned {
-        let width = width_in(bytes);
-        read_numbers(
-            width,
-            bytes,
-            start_in(bytes) + COUNTS + width,
-            symbols(plan),
-            table,
-        );
-    }
-    planned
+    let plan = check_record(bytes, table)?;
+    let width = width_in(bytes);
+    let start = start_in(bytes) + COUNTS + width;
+    read_numbers(width, bytes, start, symbols(plan), table);
+    Ok(plan)
 }
 
 // The counts, and q in the bytes after them.
@@ -258,27 +227,22 @@ fn write_parts(plan: Plan, table: &[Symbol], out: &mut [u8])
 }
 
 // The vet's checks of a plan and a table, then that of the buffer.
-fn check_writing(plan: Plan, table: &[Symbol], out: &[u8]) -> Verdict
-    ensures { verdict_code result ≡ write_code plan table.now out.now }
+fn check_writing(plan: Plan, table: &[Symbol], out: &[u8]) -> Result<(), Refusal>
+    ensures { code_of_result result ≡ write_code plan table.now out.now }
 {
-    let verdict = check_plan(plan, table);
-    if !verdict.is_accepted() {
-        return verdict;
-    }
-    if out.len() != size_with(width_of(plan.q), plan) {
-        return Verdict::Refused(Refusal::WrongLength);
-    }
-    verdict
+    check_plan(plan, table)?;
+    refuse_unless(
+        out.len() == size_with(width_of(plan.q), plan),
+        Refusal::WrongLength,
+    )
 }
 
 // Writes the record of a plan and its key table: the wide one where q asks for it.
-pub fn write_record(plan: Plan, table: &[Symbol], out: &mut [u8]) -> Verdict
-    ensures code { verdict_code result ≡ write_code plan table.now out.old }
+pub fn write_record(plan: Plan, table: &[Symbol], out: &mut [u8]) -> Result<(), Refusal>
+    ensures code { code_of_result result ≡ write_code plan table.now out.old }
     ensures out { out.new ≡ bytes_after plan table.now out.old }
 {
-    let verdict = check_writing(plan, table, out);
-    if verdict.is_accepted() {
-        write_parts(plan, table, out);
-    }
-    verdict
+    check_writing(plan, table, out)?;
+    write_parts(plan, table, out);
+    Ok(())
 }

@@ -9,7 +9,7 @@ ghost use Rattle.boundary.specs.Packed.{packed};
 ghost use Rattle.relay_exports.specs.States.{relay_of, relay_open_code};
 
 use arithmetic::Symbol;
-use boundary::pack_verdict;
+use boundary::{pack, pack_verdict};
 use plans::Plan;
 use rounds::{Held, RelayRound, Round};
 
@@ -45,15 +45,35 @@ pub(crate) fn relay_of(
         reported,
         sums,
     };
-    let beyond = Held {
-        reported: ahead,
-        sums: held,
-    };
     RelayRound {
         cluster: counts[CLUSTER] as usize,
         round,
-        ahead: beyond,
+        ahead: Held {
+            reported: ahead,
+            sums: held,
+        },
     }
+}
+
+// Who has reported and the sums, of the round and of what is held for the next, go into the lent places.
+pub(crate) fn put_state(
+    relay: RelayRound,
+    reported: &mut u16,
+    sums: &mut [Symbol; Plan::MAX_LENGTH],
+    ahead: &mut u16,
+    held: &mut [Symbol; Plan::MAX_LENGTH],
+)
+    ensures bits { reported.new ≡ relay.round.reported }
+    ensures totals { sums.new ≡ relay.round.sums }
+    ensures early { ahead.new ≡ relay.ahead.reported }
+    ensures kept { held.new ≡ relay.ahead.sums }
+{
+    let here = relay.round.sums;
+    let beyond = relay.ahead.sums;
+    *reported = relay.round.reported;
+    *sums = here;
+    *ahead = relay.ahead.reported;
+    *held = beyond;
 }
 
 // A round in which nobody has reported, where the counts are not refused. Any number will do for a round, so that none is asked.
@@ -73,27 +93,20 @@ pub extern "C" fn kortyghai_relay_open(
 {
     let asked = relay_of(*counts, 0, *reported, *sums, *ahead, *held);
     let blank = asked.round;
-    let step = RelayRound::open(
+    match RelayRound::open(
         blank.clusters,
         blank.size,
         blank.q,
         blank.length,
         asked.cluster,
         blank.number,
-    );
-    let answer = step.answer;
-    if answer.is_accepted() {
-        let next = step.round;
-        let round = next.round;
-        let none = round.sums;
-        let beyond = next.ahead;
-        let nothing = beyond.sums;
-        *reported = round.reported;
-        *sums = none;
-        *ahead = beyond.reported;
-        *held = nothing;
+    ) {
+        Ok(opened) => {
+            put_state(opened, reported, sums, ahead, held);
+            0
+        }
+        Err(refusal) => pack(refusal.code()),
     }
-    pack_verdict(answer)
 }
 
 // A frame into the round, or ahead of it; `said` is the round number that the frame has.
@@ -127,17 +140,8 @@ pub extern "C" fn kortyghai_relay_count(
 {
     let relay = relay_of(*counts, number, *reported, *sums, *ahead, *held);
     let step = relay.count(sender, said, block);
-    let answer = step.answer;
-    let next = step.round;
-    let round = next.round;
-    let left = round.sums;
-    let beyond = next.ahead;
-    let more = beyond.sums;
-    *reported = round.reported;
-    *sums = left;
-    *ahead = beyond.reported;
-    *held = more;
-    pack_verdict(answer)
+    put_state(step.state, reported, sums, ahead, held);
+    pack_verdict(step.answer)
 }
 
 // The relay moves on to its next round.
@@ -170,18 +174,10 @@ pub extern "C" fn kortyghai_relay_advance(
 {
     let relay = relay_of(*counts, *number, *reported, *sums, *ahead, *held);
     let step = relay.advance();
-    let answer = step.answer;
-    let next = step.round;
-    let round = next.round;
-    let begun = round.sums;
-    let beyond = next.ahead;
-    let more = beyond.sums;
-    *number = round.number;
-    *reported = round.reported;
-    *sums = begun;
-    *ahead = beyond.reported;
-    *held = more;
-    pack_verdict(answer)
+    let next = step.state;
+    *number = next.round.number;
+    put_state(next, reported, sums, ahead, held);
+    pack_verdict(step.answer)
 }
 
 // The relay's sums, once every user of its cluster has reported: put in the lent block, where nothing is refused.
@@ -202,6 +198,5 @@ pub extern "C" fn kortyghai_relay_give(
 {
     let relay = relay_of(*counts, number, reported, *sums, ahead, *held);
     let step = relay.give(out);
-    let answer = step.answer;
-    pack_verdict(answer)
+    pack_verdict(step.answer)
 }

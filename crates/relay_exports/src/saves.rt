@@ -5,9 +5,9 @@ ghost use Rattle.checkpoints.specs.Checkpoints.{save_code, bytes_after, used_aft
 ghost use Rattle.boundary.specs.Packed.{packed};
 ghost use Rattle.relay_exports.specs.States.{relay_of, counts_of};
 
-use crate::frames::{COUNTS, relay_of};
+use crate::frames::{COUNTS, put_state, relay_of};
 use arithmetic::Symbol;
-use boundary::pack_verdict;
+use boundary::{hand_over, pack};
 use plans::Plan;
 use rounds::RelayRound;
 
@@ -32,9 +32,7 @@ pub extern "C" fn kortyghai_relay_save(
 {
     let relay = relay_of(*counts, number, reported, *sums, ahead, *held);
     let saved = checkpoints::save(relay, out, *used);
-    let answer = saved.answer;
-    *used = saved.used;
-    pack_verdict(answer)
+    hand_over(saved, used)
 }
 
 // U, V, q, L and the cluster, each where `relay_of` looks for it.
@@ -78,21 +76,14 @@ pub extern "C" fn kortyghai_relay_restore(
     ensures kept { held.new
         ≡ if_accepted (restore_code saved.now steps) (restored saved.now steps).ahead.sums held.old }
 {
-    let step = checkpoints::restore(saved, steps);
-    let answer = step.answer;
-    if answer.is_accepted() {
-        let relay = step.round;
-        let round = relay.round;
-        let left = round.sums;
-        let beyond = relay.ahead;
-        let more = beyond.sums;
-        let run = counts_of(relay);
-        *counts = run;
-        *number = round.number;
-        *reported = round.reported;
-        *sums = left;
-        *ahead = beyond.reported;
-        *held = more;
+    match checkpoints::restore(saved, steps) {
+        Ok(relay) => {
+            let run = counts_of(relay);
+            *counts = run;
+            *number = relay.round.number;
+            put_state(relay, reported, sums, ahead, held);
+            0
+        }
+        Err(refusal) => pack(refusal.code()),
     }
-    pack_verdict(answer)
 }

@@ -2,15 +2,14 @@
 #![tactic(auto)]
 
 ghost use Rattle.std.specs.Prelude.{◌≡◌, ◌≤◌, length};
-ghost use Rattle.refusals.specs.Codes.{verdict_code};
+ghost use Rattle.refusals.specs.Codes.{code_of_result};
 ghost use Rattle.lists.specs.Lists.{zeros};
 ghost use Rattle.texts.specs.Texts.{line_with};
 ghost use Rattle.reports.specs.Program.{program_code, line_of};
 
 use arithmetic::Symbol;
-use plans::Planned;
 use records::{READ_TABLE, read_record};
-use refusals::{Code, Refusal, Verdict, verdict_code};
+use refusals::{Code, Refusal, code_of_result, refuse_unless};
 use texts::Line;
 use vetting::vet;
 
@@ -25,20 +24,14 @@ fn empty_table() -> [Symbol; READ_TABLE]
 }
 
 // The verdict on the record at the end of the bytes.
-pub fn vet_record(bytes: &[u8]) -> Verdict
-    ensures { verdict_code result ≡ program_code bytes.now }
+pub fn vet_record(bytes: &[u8]) -> Result<(), Refusal>
+    ensures { code_of_result result ≡ program_code bytes.now }
 {
-    if bytes.len() > MOST_BYTES {
-        return Verdict::Refused(Refusal::WrongLength);
-    }
+    refuse_unless(bytes.len() <= MOST_BYTES, Refusal::WrongLength)?;
     let mut table = empty_table();
-    match read_record(bytes, &mut table) {
-        Planned::Refused(refusal) => Verdict::Refused(refusal),
-        Planned::Made(plan) => {
-            let n = plan.clusters * plan.size * plan.rate;
-            vet(plan, &table[..n])
-        }
-    }
+    let plan = read_record(bytes, &mut table)?;
+    let n = plan.clusters * plan.size * plan.rate;
+    vet(plan, &table[..n])
 }
 
 // Number and details on one line.
@@ -56,5 +49,5 @@ pub fn vet_line(bytes: &[u8]) -> Line
     ensures line { result ≡ line_with (line_of (program_code bytes.now)) }
     ensures room { result.length ≤ length result.text }
 {
-    line_of(verdict_code(vet_record(bytes)))
+    line_of(code_of_result(&vet_record(bytes)))
 }

@@ -29,14 +29,14 @@ abbrev pub opened : ℕ → ℕ → ℕ → ℕ → ℕ → Round
 opened clusters size q L number =
     record { clusters = clusters; size = size; q = q; length = L; number = number; reported = 0; sums = zeros max_length }
 
--- what a refused opening hands back
+-- what stands for the round of a refused opening
 abbrev pub no_round : Round
 no_round = opened 0 0 0 0 0
 
 abbrev pub open_code : ℕ → ℕ → ℕ → ℕ → Bool → Code
 open_code clusters size q L known = first_of (open_checks clusters size q L known)
 
--- the round that is handed back
+-- the round that is opened
 abbrev pub open_round : ℕ → ℕ → ℕ → ℕ → Bool → ℕ → Round
 open_round clusters size q L known number = if_accepted (open_code clusters size q L known) (opened clusters size q L number) no_round
 

@@ -8,18 +8,41 @@ use crate::shapes::{block, edge, number, opened, room};
 use crate::steps::{agrees, open};
 use crate::turns::is_early;
 use arithmetic::Symbol;
-use rounds::{RelayRound, RelayStep, Round};
+use refusals::Step;
+use rounds::{RelayRound, Round};
 use std::num::{wrapping_add_u32, wrapping_add_usize, wrapping_sub_u32};
 use testing::{clip, over, power, product, quotient, residue, seed, state, wide, wide16};
 
+// What is wrong in what is expected after an event: in the round, in what is held for the next one, or the answer.
+#[derive(Clone, Copy, Debug, PartialEq, Eq)]
+pub enum WrongDay {
+    Reported,
+    Sum,
+    HeldReported,
+    HeldSum,
+    Number,
+    Answer,
+}
+
+pub fn wrong_day(number: usize) -> WrongDay {
+    match number {
+        0 => WrongDay::Reported,
+        1 => WrongDay::Sum,
+        2 => WrongDay::HeldReported,
+        3 => WrongDay::HeldSum,
+        4 => WrongDay::Number,
+        _ => WrongDay::Answer,
+    }
+}
+
 // The relay as the library has it and as the ledger says; whether the two differed at some event; and the mistake to be planted at the next.
-#[derive(Clone, Copy)]
+#[derive(Clone, Copy, Debug, PartialEq, Eq)]
 struct Day {
     relay: RelayRound,
     want: RelayRound,
     ledger: Ledger,
     differs: bool,
-    mistake: usize,
+    mistake: Option<WrongDay>,
 }
 
 // The number of the day's first round: by chance the first there is, or one of the last.
@@ -34,17 +57,17 @@ fn first(x: usize) -> u32 {
     }
 }
 
-// What is expected, with one wrong thing where a mistake is to be planted; the sixth mistake is a wrong answer, below.
-fn mistaken(mut want: RelayRound, mistake: usize) -> RelayRound {
+// What is expected, with one wrong thing where a mistake is to be planted; a wrong answer is below.
+fn mistaken(mut want: RelayRound, mistake: Option<WrongDay>) -> RelayRound {
     let mut round = want.round;
     let mut ahead = want.ahead;
     match mistake {
-        1 => round.reported = round.reported ^ 1,
-        2 => round.sums[0] = round.sums[0] ^ 1,
-        3 => ahead.reported = ahead.reported ^ 1,
-        4 => ahead.sums[0] = ahead.sums[0] ^ 1,
-        5 => round.number = round.number ^ 1,
-        _ => {}
+        Some(WrongDay::Reported) => round.reported = round.reported ^ 1,
+        Some(WrongDay::Sum) => round.sums[0] = round.sums[0] ^ 1,
+        Some(WrongDay::HeldReported) => ahead.reported = ahead.reported ^ 1,
+        Some(WrongDay::HeldSum) => ahead.sums[0] = ahead.sums[0] ^ 1,
+        Some(WrongDay::Number) => round.number = round.number ^ 1,
+        Some(WrongDay::Answer) | None => {}
     }
     want.round = round;
     want.ahead = ahead;
@@ -52,12 +75,12 @@ fn mistaken(mut want: RelayRound, mistake: usize) -> RelayRound {
 }
 
 // After every event, and after the opening: the answer, the state and what else was compared.
-fn judged(mut day: Day, number: usize, step: RelayStep, same: bool) -> Day {
+fn judged(mut day: Day, number: usize, step: Step<RelayRound>, same: bool) -> Day {
     let want = mistaken(relay_of(day.ledger), day.mistake);
-    let number = wrapping_add_usize(number, day.mistake / 6);
+    let wrong = over(day.mistake == Some(WrongDay::Answer), 1, 0);
+    let number = wrapping_add_usize(number, wrong);
     let outcome = agrees(number, want.cluster, want.round, want.ahead, step, same);
-    let relay = step.round;
-    day.relay = relay;
+    day.relay = step.state;
     day.want = want;
     day.differs = day.differs | (outcome == DIFFER);
     day
@@ -80,9 +103,12 @@ fn begun(x: usize) -> Day {
         want: relay,
         ledger,
         differs: false,
-        mistake: 0,
+        mistake: None,
     };
-    judged(day, 0, open(false, relay), true)
+    match open(false, relay) {
+        Ok(opened) => judged(day, 0, Step::made(opened), true),
+        Err(refusal) => judged(day, 0, Step::refused(refusal, relay), true),
+    }
 }
 
 // The number that a frame has: mostly the round's or the next one's, by chance the one before, the one after the next, or any.
@@ -191,23 +217,23 @@ fn turn(day: Day, event: usize) -> Day {
     let ready = move_number(round) == 0;
     let n = pick(x, 99, 16);
     if n < over(ready, 6, 1) {
-        return moved(day);
+        moved(day)
+    } else if n > 13 {
+        sums(day, x)
+    } else {
+        frame(day, event, x)
     }
-    if n > 13 {
-        return sums(day, x);
-    }
-    frame(day, event, x)
 }
 
 // A day of 40 to 48 events. Its number is how often it has moved on, 14 where more often: of what the other kinds cannot show, that tells most, since each
 // round moved on to begins with what was held for it.
-pub fn played(case: usize, mistake: usize) -> usize {
+pub fn played(case: usize, mistake: Option<WrongDay>) -> usize {
     let x = seed(case);
     let many = wrapping_add_usize(40, pick(x, 92, 9));
     let wrong = pick(x, 93, 40);
     let mut day = begun(x);
     for event in 0..many {
-        day.mistake = over(event == wrong, mistake, 0);
+        day.mistake = if event == wrong { mistake } else { None };
         day = turn(day, event);
     }
     let ledger = day.ledger;

@@ -8,7 +8,7 @@ use testing::{at, clip, narrow, narrow16, power, product, put, residue, state, w
 
 // What was opened, and the list: three numbers an entry, which are the round, counted from the day's first one, the sender, and the number of the event,
 // whose block is the one drawn from the seed `blocks` + that number. Of 48 events each can have one.
-#[derive(Clone, Copy)]
+#[derive(Clone, Copy, Debug, PartialEq, Eq)]
 pub struct Ledger {
     pub opened: RelayRound,
     pub blocks: usize,

@@ -17,78 +17,117 @@ mod shapes;
 mod steps;
 mod turns;
 
+use days::wrong_day;
+use numbers::DIFFER;
 use std::io;
-use std::num::wrapping_add_usize;
-use testing::print_counts;
+use testing::report;
+use turns::wrong_frame;
 
-// The last two are no kinds of their own: frames and days, with a mistake in what is expected.
-fn outcome(kind: usize, case: usize) -> usize {
-    match kind {
-        0 => turns::opening(case),
-        1 => turns::frame(case, 0),
-        2 => turns::sums(case),
-        3 => masks::masked(case),
-        4 => draws::drawn(case),
-        5 => path::total(case),
-        6 => named::named(case),
-        7 => turns::moved(case),
-        8 => days::played(case, 0),
-        9 => turns::frame(case, 1 + case % 2),
-        _ => days::played(case, 1 + case % 6),
-    }
+fn single_steps(rt: &impl Print) -> io::Result<()> {
+    report(
+        rt,
+        "openings:        ",
+        "answered",
+        DIFFER,
+        0..16000,
+        turns::opening,
+    )?;
+    report(
+        rt,
+        "frames:          ",
+        "answered",
+        DIFFER,
+        0..150000,
+        |case| { turns::frame(case, None) },
+    )?;
+    report(
+        rt,
+        "sums:            ",
+        "answered",
+        DIFFER,
+        0..36000,
+        turns::sums,
+    )
 }
 
-fn cases(kind: usize) -> usize {
-    match kind {
-        0 => 16000,
-        1 => 150000,
-        2 => 36000,
-        3 => 24000,
-        4 => 200000,
-        5 => 2000,
-        6 => 10,
-        7 => 24000,
-        8 => 5000,
-        9 => 200,
-        _ => 120,
-    }
-}
-
-fn name(kind: usize) -> &'static str {
-    match kind {
-        0 => "openings:        ",
-        1 => "frames:          ",
-        2 => "sums:            ",
-        3 => "upload, unmask:  ",
-        4 => "draws:           ",
-        5 => "whole ways:      ",
-        6 => "named cases:     ",
-        7 => "moves on:        ",
-        8 => "days:            ",
-        9 => "mistaken frames: ",
-        _ => "mistaken days:   ",
-    }
+fn blocks(rt: &impl Print) -> io::Result<()> {
+    report(
+        rt,
+        "upload, unmask:  ",
+        "answered",
+        DIFFER,
+        0..24000,
+        masks::masked,
+    )?;
+    report(
+        rt,
+        "draws:           ",
+        "answered",
+        DIFFER,
+        0..200000,
+        draws::drawn,
+    )?;
+    report(
+        rt,
+        "whole ways:      ",
+        "answered",
+        DIFFER,
+        0..2000,
+        path::total,
+    )?;
+    report(
+        rt,
+        "named cases:     ",
+        "answered",
+        DIFFER,
+        0..10,
+        named::tried,
+    )
 }
 
 // A day's number is how often it has moved on; all other numbers are answers.
-fn verb(kind: usize) -> &'static str {
-    if kind == 8 { "moved on" } else { "answered" }
+fn runs(rt: &impl Print) -> io::Result<()> {
+    report(
+        rt,
+        "moves on:        ",
+        "answered",
+        DIFFER,
+        0..24000,
+        turns::moved,
+    )?;
+    report(
+        rt,
+        "days:            ",
+        "moved on",
+        DIFFER,
+        0..5000,
+        |case| { days::played(case, None) },
+    )
 }
 
-fn report(rt: &impl Print, kind: usize) -> io::Result<()> {
-    let many = cases(kind);
-    let mut tally = [0usize; 16];
-    for case in 0..many {
-        let n = outcome(kind, case) % 16;
-        tally[n] = wrapping_add_usize(tally[n], 1);
-    }
-    print!(rt; "{}", name(kind))?;
-    print_counts(rt, verb(kind), &tally)
+// A mistake is in what is expected.
+fn mistakes(rt: &impl Print) -> io::Result<()> {
+    report(
+        rt,
+        "mistaken frames: ",
+        "answered",
+        DIFFER,
+        0..200,
+        |case| { turns::frame(case, Some(wrong_frame(case % 2))) },
+    )?;
+    report(
+        rt,
+        "mistaken days:   ",
+        "answered",
+        DIFFER,
+        0..120,
+        |case| { days::played(case, Some(wrong_day(case % 6))) },
+    )
 }
 
 fn main(rt: HostRuntime) -> io::Result<()> {
-    for kind in 0usize..11 {
-        report(&rt, kind)?;
-    }
-    Ok(())
+    single_steps(&rt)?;
+    blocks(&rt)?;
+    runs(&rt)?;
+    mistakes(&rt)
 }

@@ -4,67 +4,82 @@ use crate::faults::{
     frame_number, give_number, move_number, opening_number, senders, state_number,
 };
 use crate::model::{beyond, handed, holds_sums, with_names};
-use crate::numbers::{UNTOUCHED, one_in, pick};
-use crate::shapes::{block, edge, empty, held_of, next_round, nothing, number, room};
+use crate::numbers::{UNTOUCHED, compared, number_of, one_in, pick};
+use crate::shapes::{block, edge, held_of, next_round, nothing, number, room};
 use crate::steps::{agrees, count, give, open};
 use arithmetic::Symbol;
+use refusals::Step;
 use rounds::{RelayRound, Round};
 use std::num::{wrapping_add_u32, wrapping_add_usize};
-use testing::{clip, mul_add, narrow, narrow16, over, power, seed, wide, wide16};
+use testing::{clip, mul_add, over, power, seed, wide, wide16};
 
-// A refused opening hands back zeros.
 pub fn opening(case: usize) -> usize {
     let x = seed(case);
     let server = one_in(x, 8, 2);
     let s = handed(server, x);
     let number = opening_number(server, s, 0);
-    if number > 0 {
-        return agrees(
-            number,
-            0,
-            empty(0, 0, 0, 0, 0),
-            nothing(),
-            open(server, s),
-            true,
-        );
-    }
     let cluster = over(server, 0, s.cluster);
-    agrees(
-        number,
-        cluster,
-        with_names(s.round, 0, x),
-        nothing(),
-        open(server, s),
-        true,
-    )
+    match open(server, s) {
+        Ok(relay) => agrees(
+            number,
+            cluster,
+            with_names(s.round, 0, x),
+            nothing(),
+            Step::made(relay),
+            true,
+        ),
+        refused => compared(number_of(&refused), number, true),
+    }
 }
 
-// The expected state, with a name or a sum that is wrong where a mistake is to be planted.
-fn expected(number: usize, given: Round, names: usize, x: usize, mistake: usize) -> Round {
+// What is wrong in the expected state: who has reported, or a sum.
+#[derive(Clone, Copy, Debug, PartialEq, Eq)]
+pub enum WrongFrame {
+    Name,
+    Sum,
+}
+
+pub fn wrong_frame(number: usize) -> WrongFrame {
+    if number == 0 {
+        WrongFrame::Name
+    } else {
+        WrongFrame::Sum
+    }
+}
+
+// The expected state, with one wrong thing where a mistake is to be planted.
+fn expected(
+    number: usize,
+    given: Round,
+    names: usize,
+    x: usize,
+    mistake: Option<WrongFrame>,
+) -> Round {
     let mut want = given;
     if number == 0 {
         want = with_names(given, names, x);
     }
-    want.reported = want.reported ^ narrow16(mistake % 2);
-    want.sums[0] = want.sums[0] ^ narrow(mistake / 2);
+    match mistake {
+        Some(WrongFrame::Name) => want.reported = want.reported ^ 1,
+        Some(WrongFrame::Sum) => want.sums[0] = want.sums[0] ^ 1,
+        None => {}
+    }
     want
 }
 
 // The number that a frame has: mostly the round's, by chance another one or the next.
 fn said(round: Round, x: usize) -> u32 {
     if one_in(x, 41, 3) {
-        return wrapping_add_u32(round.number, 1);
+        wrapping_add_u32(round.number, 1)
+    } else {
+        number(over(one_in(x, 16, 12), seed(x), x))
     }
-    number(over(one_in(x, 16, 12), seed(x), x))
 }
 
 // Whether the frame is for the round after this one, which a server does not hear.
 pub fn is_early(server: bool, round: Round, said: u32) -> bool {
     let last = round.number == 4294967295;
-    if server || last {
-        return false;
-    }
-    said == wrapping_add_u32(round.number, 1)
+    !server && !last && said == wrapping_add_u32(round.number, 1)
 }
 
 fn counted(
@@ -74,7 +89,7 @@ fn counted(
     x: usize,
     said: u32,
     block: &[Symbol],
-    mistake: usize,
+    mistake: Option<WrongFrame>,
 ) -> usize {
     let given = s.round;
     let early = is_early(server, given, said);
@@ -89,13 +104,14 @@ fn counted(
     let want = expected(number, aim, more, x, mistake);
     let step = count(server, s, sender, said, block);
     if early {
-        return agrees(number, s.cluster, given, held_of(want), step, true);
+        agrees(number, s.cluster, given, held_of(want), step, true)
+    } else {
+        agrees(number, s.cluster, want, s.ahead, step, true)
     }
-    agrees(number, s.cluster, want, s.ahead, step, true)
 }
 
 // Senders come again, and some are strangers. Most frames are good, some are early, late or damaged, and some have several faults.
-pub fn frame(case: usize, mistake: usize) -> usize {
+pub fn frame(case: usize, mistake: Option<WrongFrame>) -> usize {
     let x = seed(case);
     let server = one_in(x, 8, 2);
     let s = handed(server, x);
@@ -117,16 +133,17 @@ pub fn moved(case: usize) -> usize {
     let number = state_number(false, s, move_number(round));
     let step = s.advance();
     if number > 0 {
-        return agrees(number, s.cluster, round, s.ahead, step, true);
+        agrees(number, s.cluster, round, s.ahead, step, true)
+    } else {
+        agrees(
+            number,
+            s.cluster,
+            next_round(round, s.ahead),
+            nothing(),
+            step,
+            true,
+        )
     }
-    agrees(
-        number,
-        s.cluster,
-        next_round(round, s.ahead),
-        nothing(),
-        step,
-        true,
-    )
 }
 
 fn given(server: bool, s: RelayRound, out: &mut [Symbol]) -> usize {

@@ -5,7 +5,7 @@ ghost use Rattle.windows.specs.Windows.{open_code, window_of, window_code, pushe
 ghost use Rattle.boundary.specs.Packed.{packed};
 ghost use Rattle.server_exports.specs.States.{window_from};
 
-use boundary::pack_verdict;
+use boundary::{hand_over, pack, pack_verdict};
 use windows::{Window, push_total};
 
 // A window that holds no total yet, where the span is not refused.
@@ -20,17 +20,16 @@ pub extern "C" fn kortyghai_window_open(
     ensures window { window_from span held.new sum.new totals.new
         ≡ if_accepted (open_code span) (window_of span []) (window_from span held.old sum.old totals.old) }
 {
-    let step = Window::open(span);
-    let verdict = step.verdict;
-    if verdict.is_accepted() {
-        let window = step.window;
-        let none = window.totals;
-        let start = window.sum;
-        *held = window.held;
-        *sum = start;
-        *totals = none;
+    match Window::open(span) {
+        Ok(window) => {
+            let none = window.totals;
+            *held = window.held;
+            *sum = window.sum;
+            *totals = none;
+            0
+        }
+        Err(refusal) => pack(refusal.code()),
     }
-    pack_verdict(verdict)
 }
 
 // One total more.
@@ -47,11 +46,9 @@ pub extern "C" fn kortyghai_window_push(
         ≡ pushed_window (window_from span held.old sum.old totals.old) total }
 {
     let step = push_total(totals, span, *held, *sum, total);
-    let verdict = step.verdict;
-    let more = step.sum;
-    *held = step.held;
-    *sum = more;
-    pack_verdict(verdict)
+    *held = step.state.held;
+    *sum = step.state.sum;
+    pack_verdict(step.answer)
 }
 
 // The sum of the totals that are held.
@@ -67,20 +64,13 @@ pub extern "C" fn kortyghai_window_sum(
     ensures out { out.new ≡ if_accepted (window_code (window_from span held sum totals.now))
         (given_sum (window_from span held sum totals.now)) out.old }
 {
-    let places = *totals;
     let window = Window {
         span,
         held,
-        totals: places,
+        totals: *totals,
         sum,
     };
-    let given = window.sum();
-    let verdict = given.verdict;
-    if verdict.is_accepted() {
-        let value = given.value;
-        *out = value;
-    }
-    pack_verdict(verdict)
+    hand_over(window.sum(), out)
 }
 
 // The largest of the totals that are held.
@@ -96,18 +86,11 @@ pub extern "C" fn kortyghai_window_largest(
     ensures out { out.new ≡ if_accepted (largest_code (window_from span held sum totals.now))
         (given_largest (window_from span held sum totals.now)) out.old }
 {
-    let places = *totals;
     let window = Window {
         span,
         held,
-        totals: places,
+        totals: *totals,
         sum,
     };
-    let given = window.largest();
-    let verdict = given.verdict;
-    if verdict.is_accepted() {
-        let value = given.value;
-        *out = value;
-    }
-    pack_verdict(verdict)
+    hand_over(window.largest(), out)
 }

@@ -1,7 +1,7 @@
 // The server's round, and its total shown. U, V, q and L of a round are lent in one run; the rest of its state stands beside them.
 ghost use Rattle.std.specs.Prelude.{◌≡◌};
 ghost use Rattle.refusals.specs.Codes.{if_accepted};
-ghost use Rattle.lists.specs.Lists.{at, zeros};
+ghost use Rattle.lists.specs.Lists.{zeros};
 ghost use Rattle.rounds.specs.Ledger.{frame};
 ghost use Rattle.rounds.specs.Rounds.{server_code, server_next, server_give_code, server_sums};
 ghost use Rattle.plans.specs.Plans.{max_length};
@@ -11,7 +11,7 @@ ghost use Rattle.boundary.specs.Counts.{plan_of};
 ghost use Rattle.server_exports.specs.States.{server_of, server_open_code};
 
 use arithmetic::Symbol;
-use boundary::{PLAN_NUMBERS, pack_verdict, plan_of};
+use boundary::{PLAN_NUMBERS, pack, pack_verdict, plan_of};
 use plans::Plan;
 use rounds::{Round, ServerRound};
 
@@ -34,16 +34,17 @@ fn server_of(
 ) -> ServerRound
     ensures { result ≡ server_of counts number reported sums }
 {
-    let round = Round {
-        clusters: counts[CLUSTERS] as usize,
-        size: counts[SIZE] as usize,
-        q: counts[Q],
-        length: counts[LENGTH] as usize,
-        number,
-        reported,
-        sums,
-    };
-    ServerRound { round }
+    ServerRound {
+        round: Round {
+            clusters: counts[CLUSTERS] as usize,
+            size: counts[SIZE] as usize,
+            q: counts[Q],
+            length: counts[LENGTH] as usize,
+            number,
+            reported,
+            sums,
+        },
+    }
 }
 
 // A round in which nobody has reported, where the counts are not refused. Any number will do for a round, so that none is asked.
@@ -57,24 +58,22 @@ pub extern "C" fn kortyghai_server_open(
     ensures bits { reported.new ≡ if_accepted (server_open_code counts.now) 0 reported.old }
     ensures sums { sums.new ≡ if_accepted (server_open_code counts.now) (zeros max_length) sums.old }
 {
-    let asked = server_of(*counts, 0, *reported, *sums);
-    let blank = asked.round;
-    let step = ServerRound::open(
+    let blank = server_of(*counts, 0, *reported, *sums).round;
+    match ServerRound::open(
         blank.clusters,
         blank.size,
         blank.q,
         blank.length,
         blank.number,
-    );
-    let answer = step.answer;
-    if answer.is_accepted() {
-        let server = step.round;
-        let round = server.round;
-        let none = round.sums;
-        *reported = round.reported;
-        *sums = none;
+    ) {
+        Ok(server) => {
+            let none = server.round.sums;
+            *reported = server.round.reported;
+            *sums = none;
+            0
+        }
+        Err(refusal) => pack(refusal.code()),
     }
-    pack_verdict(answer)
 }
 
 // A relay's sums into the round; `said` is the round number that the frame has.
@@ -97,13 +96,11 @@ pub extern "C" fn kortyghai_server_count(
 {
     let server = server_of(*counts, number, *reported, *sums);
     let step = server.count(sender, said, block);
-    let answer = step.answer;
-    let next = step.round;
-    let round = next.round;
+    let round = step.state.round;
     let left = round.sums;
     *reported = round.reported;
     *sums = left;
-    pack_verdict(answer)
+    pack_verdict(step.answer)
 }
 
 // The total, once every relay has reported: put in the lent block, where nothing is refused.
@@ -119,9 +116,7 @@ pub extern "C" fn kortyghai_server_give(
     ensures out { out.new ≡ server_sums (server_of counts.now number reported sums.now) out.old }
 {
     let server = server_of(*counts, number, reported, *sums);
-    let step = server.give(out);
-    let answer = step.answer;
-    pack_verdict(answer)
+    pack_verdict(server.give(out).answer)
 }
 
 // A block of totals as signed numbers, where nothing is refused.
@@ -136,6 +131,5 @@ pub extern "C" fn kortyghai_show_totals(
     ensures code { result ≡ packed (totals_code (plan_of plan.now) cap length totals.now out.old) }
     ensures out { out.new ≡ totals_after (plan_of plan.now) cap length totals.now out.old }
 {
-    let pool = plan_of(*plan);
-    pack_verdict(signed::show_totals(pool, cap, length, totals, out))
+    pack_verdict(signed::show_totals(plan_of(*plan), cap, length, totals, out))
 }

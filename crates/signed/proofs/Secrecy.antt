@@ -147,7 +147,8 @@ module _ (P : Pool) (m : ℕ) where
       )
 
       -- and true sums by their totals: agreement on the totals modulo the prime is agreement on the true sums
-      shown-is : (S : List ℤ) → Capped P m L S → (p : ℕ) → p < L → shown_of P.q (total P L (travelling P.q S) p) ≡ true_sum (users P) (λ i. signed_reading L S i p)
+      shown-is : (S : List ℤ) → Capped P m L S → (p : ℕ) → p < L
+          → shown_of P.q (total P L (travelling P.q S) p) ≡ true_sum (users P) (λ i. signed_reading L S i p)
       shown-is S d = shown-total P m L S d.size d.inside cap
 
       pub sums-alike : (p : ℕ) → p < L

@@ -61,7 +61,8 @@ module _ (P : Plan) (m L : ℕ) where
 
   pub fifteen-exactly : (R : List ℤ) (key out : List ℕ)
       → ◌≡◌ {A = ℕ} (signed_upload_code P m L R key out).number 15
-      ↔ ((accepted ≡ plan_code P) × (cap_fits P m ≡ true) × (length_fits L ≡ true) × (length R ≡ L) × (length key ≡ L) × (length out ≡ L) × (all_in_cap m R ≡ false))
+      ↔ ((accepted ≡ plan_code P) × (cap_fits P m ≡ true) × (length_fits L ≡ true) × (length R ≡ L) × (length key ≡ L) × (length out ≡ L)
+      × (all_in_cap m R ≡ false))
   fifteen-exactly R key out =
       let sized : Bool = eqb (length R) L && eqb (length key) L && eqb (length out) L in
       let (gives, given) = given-exactly 15 (shape_checks P m L sized) (not (all_in_cap m R)) ((not (all_below P.q key), code 3) ∷ []) tt tt tt in (
@@ -134,7 +135,8 @@ module _ (P : Plan) (m L : ℕ) where
   never-outside upload key out = never-given 15 (signed_unmask_checks P m L upload key out) tt
 
 -- where signed readings are uploaded, taking the key off what is sent is not refused, and writes the readings
-pub signed-gives-back : (P : Plan) (m m' L : ℕ) (R : List ℤ) (key out : List ℕ) (back : List ℤ) → accepted ≡ signed_upload_code P m L R key out → cap_fits P m' ≡ true → length back ≡ L
+pub signed-gives-back : (P : Plan) (m m' L : ℕ) (R : List ℤ) (key out : List ℕ) (back : List ℤ) → accepted ≡ signed_upload_code P m L R key out
+    → cap_fits P m' ≡ true → length back ≡ L
     → (accepted ≡ signed_unmask_code P m' L (signed_upload_of P L R key) key back) × (signed_unmask_after P m' L (signed_upload_of P L R key) key back ≡ R)
 signed-gives-back P m m' L R key out back e cap' room =
     let q : ℕ = P.q in

@@ -11,23 +11,17 @@ pub(crate) fn cap_fits(plan: Plan, cap: u32) -> bool
     requires { users_of plan ≤ max_users }
     ensures { result ≡ cap_fits plan cap }
 {
-    if cap == 0 {
-        return false;
-    }
-    2 * (plan.clusters * plan.size) * (cap as usize) < plan.q as usize
+    cap != 0 && 2 * (plan.clusters * plan.size) * (cap as usize) < plan.q as usize
 }
 
 // It ends at the first reading outside the cap, so its time tells where that stands; of readings inside the cap it tells nothing.
 pub(crate) fn all_in_cap(cap: u32, readings: &[i32]) -> bool
     ensures { result ≡ all_in_cap cap readings.now }
 {
-    let mut k = 0;
-    while k < readings.len() {
-        let w = readings[k];
+    for &w in readings {
         if !in_cap(cap, w) {
             return false;
         }
-        k += 1;
     }
     true
 }

@@ -7,6 +7,14 @@ use signed::{show_totals, signed_unmask, signed_upload};
 use std::num::wrapping_add_usize;
 use testing::{count_large, over, wide};
 
+// What is asked of the library: where an upload is accepted, to take its key off too.
+#[derive(Clone, Copy, Debug, PartialEq, Eq)]
+pub enum Call {
+    Upload,
+    Unmask,
+    ShowTotals,
+}
+
 // After the shape 15, then 3.
 fn uploaded(s: Shape, readings: &[i32], key: &[Symbol], out: &mut [Symbol]) -> usize {
     let plan = s.plan;
@@ -61,14 +69,15 @@ pub fn given_back(
 ) -> usize {
     let number = uploaded(s, readings, key, out);
     if number > 0 {
-        return number;
+        number
+    } else {
+        let back = unmasked(s, out, key, shown);
+        over(same_readings(readings, shown), back, DIFFER)
     }
-    let back = unmasked(s, out, key, shown);
-    over(same_readings(readings, shown), back, DIFFER)
 }
 
 pub fn asked(
-    call: usize,
+    call: Call,
     s: Shape,
     readings: &[i32],
     symbols: &[Symbol],
@@ -77,8 +86,8 @@ pub fn asked(
     shown: &mut [i32],
 ) -> usize {
     match call {
-        0 => given_back(s, readings, key, out, shown),
-        1 => unmasked(s, symbols, key, shown),
-        _ => totalled(s, symbols, shown),
+        Call::Upload => given_back(s, readings, key, out, shown),
+        Call::Unmask => unmasked(s, symbols, key, shown),
+        Call::ShowTotals => totalled(s, symbols, shown),
     }
 }

@@ -1,5 +1,5 @@
 // Drawn inputs: the largest primes of 16 and of 32 bits, caps at the edge, and readings at both ends of their type.
-use crate::calls::asked;
+use crate::calls::{Call, asked};
 use crate::model::{Shape, UNSHOWN, UNTOUCHED, largest_cap};
 use crate::numbers::{LAST, put_reading, reading};
 use arithmetic::Symbol;
@@ -13,35 +13,23 @@ pub fn pick(x: usize, k: usize, n: usize) -> usize {
 }
 
 // Below 16 primes, and from there on numbers that are none.
-pub fn modulus(n: usize) -> usize {
-    match n {
-        0 | 1 | 2 => 4294967291,
-        3 | 4 => 4294967279,
-        5 | 6 | 7 | 8 => 65537,
-        9 | 10 | 11 | 12 => 65521,
-        13 | 14 | 15 => 257,
-        16 => 65535,
-        17 => 4294967295,
-        _ => 1,
-    }
+static MODULUS: [usize; 19] = [
+    4294967291, 4294967291, 4294967291, 4294967279, 4294967279, 65537, 65537, 65537, 65537, 65521,
+    65521, 65521, 65521, 257, 257, 257, 65535, 4294967295, 1,
+];
+
+fn modulus(n: usize) -> usize {
+    MODULUS[clip(n, 18)]
 }
 
 // U and V as two digits; from 24 on outside their bounds.
-pub fn counts(n: usize) -> usize {
-    match n {
-        0 | 1 | 2 => 11,
-        3 | 4 | 5 => 21,
-        6 | 7 | 8 => 12,
-        9 | 10 | 11 => 22,
-        12 | 13 | 14 => 44,
-        15 | 16 | 17 => 82,
-        18 | 19 | 20 => 28,
-        21 | 22 | 23 => 35,
-        24 => 10,
-        25 => 91,
-        26 => 19,
-        _ => 36,
-    }
+static COUNTS: [usize; 28] = [
+    11, 11, 11, 21, 21, 21, 12, 12, 12, 22, 22, 22, 44, 44, 44, 82, 82, 82, 28, 28, 28, 35, 35, 35,
+    10, 91, 19, 36,
+];
+
+fn counts(n: usize) -> usize {
+    COUNTS[clip(n, 27)]
 }
 
 // The largest that fits and one more most often, and any that fits.
@@ -132,7 +120,7 @@ fn block(q: usize, x: usize, place: usize) -> [Symbol; 66] {
 
 // The blocks are lent in these lengths.
 fn lent(
-    call: usize,
+    call: Call,
     s: Shape,
     x: usize,
     readings: &[i32],
@@ -157,7 +145,7 @@ fn lent(
     )
 }
 
-pub fn drawn(call: usize, case: usize) -> usize {
+pub fn answer(call: Call, case: usize) -> usize {
     let x = seed(case);
     let plan = plan_of(x, 28, 20);
     let q = wide(plan.q);

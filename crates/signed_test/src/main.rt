@@ -10,43 +10,59 @@ mod numbers;
 mod runs;
 mod small;
 
-use drawn::drawn;
+use calls::Call;
 use model::DIFFER;
 use runs::round;
-use small::{KEYED, SINGLES, small};
+use small::{KEYED, SINGLES};
 use std::io;
-use std::num::wrapping_add_usize;
-use testing::print_counts;
+use testing::report;
 
 // How many inputs of each call are drawn, and how many rounds.
 const DRAWN: usize = 9000;
 
 const ROUNDS: usize = 300;
 
-fn outcome(kind: usize, case: usize) -> usize {
-    match kind {
-        0 | 1 | 2 => small(kind, case),
-        3 | 4 | 5 => drawn(kind - 3, case),
-        _ => round(case),
-    }
+// A call's small inputs, and its drawn ones.
+fn report_small(rt: &impl Print, name: &str, call: Call, cases: usize) -> io::Result<()> {
+    report(
+        rt,
+        name,
+        "answered",
+        DIFFER,
+        0..cases,
+        |case| small::answer(call, case),
+    )
 }
 
-fn report(rt: &impl Print, name: &str, kind: usize, cases: usize) -> io::Result<()> {
-    let mut tally = [0usize; DIFFER + 1];
-    for case in 0..cases {
-        let n = outcome(kind, case) % (DIFFER + 1);
-        tally[n] = wrapping_add_usize(tally[n], 1);
-    }
-    print!(rt; "{name}")?;
-    print_counts(rt, "answered", &tally)
+fn report_drawn(rt: &impl Print, name: &str, call: Call) -> io::Result<()> {
+    report(
+        rt,
+        name,
+        "answered",
+        DIFFER,
+        0..DRAWN,
+        |case| drawn::answer(call, case),
+    )
 }
 
 fn main(rt: HostRuntime) -> io::Result<()> {
-    report(&rt, "uploads, q below 60:         ", 0, KEYED)?;
-    report(&rt, "keys taken off, q below 60:  ", 1, KEYED)?;
-    report(&rt, "totals shown, q below 60:    ", 2, SINGLES)?;
-    report(&rt, "uploads, drawn:              ", 3, DRAWN)?;
-    report(&rt, "keys taken off, drawn:       ", 4, DRAWN)?;
-    report(&rt, "totals shown, drawn:         ", 5, DRAWN)?;
-    report(&rt, "whole rounds:                ", 6, ROUNDS)
+    report_small(&rt, "uploads, q below 60:         ", Call::Upload, KEYED)?;
+    report_small(&rt, "keys taken off, q below 60:  ", Call::Unmask, KEYED)?;
+    report_small(
+        &rt,
+        "totals shown, q below 60:    ",
+        Call::ShowTotals,
+        SINGLES,
+    )?;
+    report_drawn(&rt, "uploads, drawn:              ", Call::Upload)?;
+    report_drawn(&rt, "keys taken off, drawn:       ", Call::Unmask)?;
+    report_drawn(&rt, "totals shown, drawn:         ", Call::ShowTotals)?;
+    report(
+        &rt,
+        "whole rounds:                ",
+        "answered",
+        DIFFER,
+        0..ROUNDS,
+        round,
+    )
 }

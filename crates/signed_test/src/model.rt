@@ -2,12 +2,12 @@
 use crate::numbers::{least, minus, nearest, of_reading, plus, reading_at, symbol_at};
 use arithmetic::Symbol;
 use plans::Plan;
-use refusals::Verdict;
+use refusals::Refusal;
 use std::num::{wrapping_add_usize, wrapping_sub_usize};
 use testing::{is_outside, is_prime, over, product, quotient, wide, wide16};
 
 // What a call is given beside its blocks.
-#[derive(Clone, Copy)]
+#[derive(Clone, Copy, Debug, PartialEq, Eq)]
 pub struct Shape {
     pub plan: Plan,
     pub cap: u32,
@@ -32,11 +32,9 @@ pub fn largest_cap(plan: Plan) -> usize {
 }
 
 fn out_of_bounds(plan: Plan) -> bool {
-    if is_outside(plan.clusters, 8) || is_outside(plan.size, 8) {
-        return true;
-    }
     let users = product(plan.clusters, plan.size);
-    users > 16 || plan.limit > users || is_outside(plan.rate, 16)
+    let sides = is_outside(plan.clusters, 8) || is_outside(plan.size, 8);
+    sides || users > 16 || plan.limit > users || is_outside(plan.rate, 16)
 }
 
 // The large primes that are drawn are known to be primes; all other numbers are tried.
@@ -123,8 +121,8 @@ pub fn same_readings(s: &[i32], t: &[i32]) -> bool {
 }
 
 // No refusal of these calls has a detail.
-pub fn compared(answer: Verdict, number: usize, same: bool) -> usize {
-    let code = refusals::verdict_code(answer);
+pub fn compared(answer: Result<(), Refusal>, number: usize, same: bool) -> usize {
+    let code = refusals::code_of_result(&answer);
     let details = wide16(code.first | code.second);
     let agree = same && details == 0 && wide16(code.number) == number;
     over(agree, number, DIFFER)

@@ -14,9 +14,12 @@ fn near(a: i64) -> i64
     ensures { unsigned_abs result ≤ 2 ^ 61 }
 {
     if FAR < a {
-        return FAR;
+        FAR
+    } else if a < -FAR {
+        -FAR
+    } else {
+        a
     }
-    if a < -FAR { -FAR } else { a }
 }
 
 pub fn plus(a: i64, b: i64) -> i64 {
@@ -29,10 +32,7 @@ pub fn minus(a: i64, b: i64) -> i64 {
 
 // With the sign of n; 0 where q is 0.
 fn remainder(q: Symbol, n: i64) -> i64 {
-    if q == 0 {
-        return 0;
-    }
-    n % (q as i64)
+    if q == 0 { 0 } else { n % (q as i64) }
 }
 
 // The number of 0 to q - 1 that leaves the same.
@@ -46,12 +46,12 @@ pub fn nearest(q: Symbol, n: i64) -> i64 {
     let r = remainder(q, n);
     let half = (q / 2) as i64;
     if half < r {
-        return minus(r, q as i64);
+        minus(r, q as i64)
+    } else if r < minus(0, half) {
+        plus(r, q as i64)
+    } else {
+        r
     }
-    if r < minus(0, half) {
-        return plus(r, q as i64);
-    }
-    r
 }
 
 pub fn of_reading(w: i32) -> i64 {

@@ -1,25 +1,23 @@
 // All small inputs: blocks of one number, with every q below 60, every cap to 35, and 1, 2, 4 or 16 users.
-use crate::calls::asked;
+use crate::calls::{Call, asked};
 use crate::model::{Shape, UNSHOWN, UNTOUCHED};
 use crate::numbers::reading;
 use plans::Plan;
-use testing::narrow;
+use testing::{clip, narrow};
 
 // How many inputs there are of one number, and how many with each key from 0 to 60, so that every symbol is among them, and q and more.
 pub const SINGLES: usize = 630720;
 
 pub const KEYED: usize = 38473920;
 
+static CLUSTERS: [usize; 4] = [1, 2, 2, 8];
+
 fn clusters(n: usize) -> usize {
-    match n {
-        0 => 1,
-        1 | 2 => 2,
-        _ => 8,
-    }
+    CLUSTERS[clip(n, 3)]
 }
 
 // Readings from -36 to 36; or as many symbols from 0 on, so that q and more are among them.
-pub fn small(call: usize, case: usize) -> usize {
+pub fn answer(call: Call, case: usize) -> usize {
     let q = case % 60;
     let users = case / 2160 % 4;
     let n = case / 8640 % 73;

@@ -2,27 +2,22 @@
 #![tactic(auto)]
 
 use console::read_full;
-use refusals::Verdict;
 use simulation::Run;
 use std::io;
 use texts::Line;
 
 fn write_line(rt: &impl Print, line: Line) -> io::Result<()> {
-    let text = line.text;
-    let end = line.length;
-    if end <= Line::PLACES {
-        rt.write_all(&text[..end])?;
+    if line.length <= Line::PLACES {
+        rt.write_all(&line.text[..line.length])?;
     }
     Ok(())
 }
 
-fn write_rounds(rt: &impl Print, first: Run) -> io::Result<()> {
-    let mut run = first;
-    let rounds = run.rounds;
-    for _ in 0..rounds {
-        let next = simulation::next_line(run);
-        write_line(rt, next.line)?;
-        run = next.run;
+fn write_rounds(rt: &impl Print, mut run: Run) -> io::Result<()> {
+    for _ in 0..run.rounds {
+        if let Ok(line) = simulation::next_line(&mut run) {
+            write_line(rt, line)?;
+        }
     }
     Ok(())
 }
@@ -31,9 +26,8 @@ fn main(rt: HostRuntime) -> io::Result<()> {
     // One byte more than a program takes, so that a longer input is seen.
     let mut buffer = [0u8; 65536];
     let n = read_full(&mut rt.reader(), &mut buffer).bytes;
-    let opened = simulation::open(&buffer[..n]);
-    if let Verdict::Refused(refusal) = opened.answer {
-        return write_line(&rt, simulation::refused_line(Verdict::Refused(refusal)));
+    match simulation::open(&buffer[..n]) {
+        Ok(run) => write_rounds(&rt, run),
+        Err(refusal) => write_line(&rt, simulation::refused_line(Err(refusal))),
     }
-    write_rounds(&rt, opened.run)
 }

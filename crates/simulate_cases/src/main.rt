@@ -2,7 +2,6 @@
 #![tactic(auto)]
 
 use console::read_full;
-use refusals::Verdict;
 use simulation::Run;
 use std::env::{Env, FillError};
 use std::fs::File;
@@ -15,31 +14,26 @@ use texts::Line;
 const LONGEST_NAME: usize = 4096;
 
 fn write_line(rt: &impl Print, line: Line) -> io::Result<()> {
-    let text = line.text;
-    let end = line.length;
-    if end <= Line::PLACES {
-        rt.write_all(&text[..end])?;
+    if line.length <= Line::PLACES {
+        rt.write_all(&line.text[..line.length])?;
     }
     Ok(())
 }
 
-fn write_rounds(rt: &impl Print, first: Run) -> io::Result<()> {
-    let mut run = first;
-    let rounds = run.rounds;
-    for _ in 0..rounds {
-        let next = simulation::next_line(run);
-        write_line(rt, next.line)?;
-        run = next.run;
+fn write_rounds(rt: &impl Print, mut run: Run) -> io::Result<()> {
+    for _ in 0..run.rounds {
+        if let Ok(line) = simulation::next_line(&mut run) {
+            write_line(rt, line)?;
+        }
     }
     Ok(())
 }
 
 fn run_bytes(rt: &impl Print, bytes: &[u8]) -> io::Result<()> {
-    let opened = simulation::open(bytes);
-    if let Verdict::Refused(refusal) = opened.answer {
-        return write_line(rt, simulation::refused_line(Verdict::Refused(refusal)));
+    match simulation::open(bytes) {
+        Ok(run) => write_rounds(rt, run),
+        Err(refusal) => write_line(rt, simulation::refused_line(Err(refusal))),
     }
-    write_rounds(rt, opened.run)
 }
 
 fn run_file<F: Read>(rt: &impl Print, file: &mut F) -> io::Result<()> {

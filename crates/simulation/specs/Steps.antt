@@ -19,7 +19,7 @@ run P table m rounds number s = record { plan = P; table = table; cap = m; round
 abbrev pub no_run : Run
 no_run = run no_plan (zeros 256) 0 0 0 0
 
--- what the opening hands back: "It starts from s = 1 (first value 16,838), uses block length 1 and numbers rounds from 1."
+-- the run that is opened: "It starts from s = 1 (first value 16,838), uses block length 1 and numbers rounds from 1."
 abbrev pub run_in : List ℕ → Run
 run_in B =
     if_accepted (input_code B) (run (plan_in B) (padded (table_in B)) (cap_in B) (rounds_in B) 1 1) no_run

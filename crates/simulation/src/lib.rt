@@ -9,8 +9,6 @@ pub use input::open;
 pub use lines::{next_line, refused_line};
 use plans::Plan;
 use records::READ_TABLE;
-use refusals::Verdict;
-use texts::Line;
 
 // A run of rounds: a plan and its key table with 0 past it, a cap, how many rounds there are, the next one's number and the generator's state before it.
 #[derive(Clone, Copy)]
@@ -21,19 +19,4 @@ pub struct Run {
     pub rounds: u32,
     pub number: u32,
     pub state: u32,
-}
-
-// The next line of a run, and the run after it.
-#[derive(Clone, Copy)]
-pub struct Next {
-    pub answer: Verdict,
-    pub line: Line,
-    pub run: Run,
-}
-
-// A run that is opened.
-#[derive(Clone, Copy)]
-pub struct Opening {
-    pub answer: Verdict,
-    pub run: Run,
 }

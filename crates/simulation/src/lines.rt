@@ -1,19 +1,20 @@
 // The lines of a run on paper, one after the other.
 ghost use Rattle.std.specs.Prelude.{◌≡◌, ◌&&◌, ◌<◌, ◌≤◌, leb, []};
-ghost use Rattle.refusals.specs.Codes.{accepted, code_of, first_of, if_accepted, verdict_code};
+ghost use Rattle.std.specs.Result.{result_unwrap_or};
+ghost use Rattle.refusals.specs.Codes.{first_of, if_accepted, code_of_result};
 ghost use Rattle.texts.specs.Texts.{line_with};
 ghost use Rattle.trials.specs.Trials.{trial_checks};
-ghost use Rattle.trials.specs.Answers.{trial_of, no_trial, tried_code, tried_trial};
+ghost use Rattle.trials.specs.Answers.{trial_of, no_trial};
 ghost use Rattle.simulation.specs.Drawing.{text_of, later_run};
 ghost use Rattle.simulation.specs.Steps.{table_of, line_code, next_line, next_run, refused_line};
 
-use crate::{Next, Run};
-use refusals::{Refusal, Verdict, verdict_code};
+use crate::Run;
+use refusals::{Refusal, code_of_result, refuse_unless};
 use texts::Line;
-use trials::{Trial, Tried, try_round};
+use trials::{Trial, try_round};
 
 // The most rounds of a run.
-pub(crate) const MOST_ROUNDS: u32 = 10000;
+const MOST_ROUNDS: u32 = 10000;
 
 // Round number, last sender's index, relay 1's sum, true sum, shown total.
 fn write_line(number: u32, trial: Trial) -> Line
@@ -29,82 +30,58 @@ fn write_line(number: u32, trial: Trial) -> Line
         .put(b'\n')
 }
 
+// Whether a run has a number of rounds that is allowed.
+pub(crate) fn rounds_fit(rounds: u32) -> bool
+    ensures { result ≡ (leb 1 rounds && leb rounds 10000) }
+{
+    1 <= rounds && rounds <= MOST_ROUNDS
+}
+
 // Whether the next round is one of the run's.
 fn has_next(rounds: u32, number: u32) -> bool
     ensures { result ≡ (leb 1 rounds && leb rounds 10000 && leb 1 number && leb number rounds) }
 {
-    if rounds < 1 {
-        return false;
-    }
-    if rounds > MOST_ROUNDS {
-        return false;
-    }
-    if number < 1 {
-        return false;
-    }
-    number <= rounds
+    rounds_fit(rounds) && 1 <= number && number <= rounds
 }
 
 // The next round of a run, whatever its plan and table are.
-fn try_next(run: Run) -> Tried
-    ensures code { tried_code result ≡ first_of (trial_checks run.plan (table_of run) run.cap) }
-    ensures trial { tried_trial result
+fn try_next(run: Run) -> Result<Trial, Refusal>
+    ensures code { code_of_result result ≡ first_of (trial_checks run.plan (table_of run) run.cap) }
+    ensures trial { result_unwrap_or result no_trial
         ≡ if_accepted (first_of (trial_checks run.plan (table_of run) run.cap)) (trial_of run.plan (table_of run) run.cap run.state) no_trial }
 {
-    let plan = run.plan;
-    let table = run.table;
-    if !plan.in_bounds() {
-        return Tried::Refused(Refusal::OutOfBounds);
-    }
-    let n = plan.clusters * plan.size * plan.rate;
-    try_round(plan, &table[..n], run.cap, run.number, run.state)
+    refuse_unless(run.plan.in_bounds(), Refusal::OutOfBounds)?;
+    let n = run.plan.clusters * run.plan.size * run.plan.rate;
+    try_round(run.plan, &run.table[..n], run.cap, run.number, run.state)
 }
 
-// A run that has no next line comes back as it was, with an empty line.
-fn stopped(run: Run, refusal: Refusal) -> Next
-    ensures { (verdict_code result.answer ≡ code_of refusal) × (result.line ≡ line_with []) × (result.run ≡ run) }
-{
-    let line = Line::new();
-    Next {
-        answer: Verdict::Refused(refusal),
-        line,
-        run,
-    }
-}
-
-fn advanced(mut run: Run, trial: Trial) -> Next
-    requires { (run.number ≤ 10000) × (trial.last < 4294967296) }
-    ensures { (verdict_code result.answer ≡ accepted) × (result.line ≡ line_with (text_of run.number trial)) × (result.run ≡ later_run run trial.state) }
+// The line of a round that was tried, and the run moved past it.
+fn advance(run: &mut Run, trial: Trial) -> Line
+    requires { (run.old.number ≤ 10000) × (trial.last < 4294967296) }
+    ensures line { result ≡ line_with (text_of run.old.number trial) }
+    ensures run { run.new ≡ later_run run.old trial.state }
 {
     let line = write_line(run.number, trial);
-    run.number = run.number + 1;
+    run.number += 1;
     run.state = trial.state;
-    Next {
-        answer: Verdict::Accepted,
-        line,
-        run,
-    }
+    line
 }
 
-// The next round's line, and the run after it.
-pub fn next_line(run: Run) -> Next
-    ensures code { verdict_code result.answer ≡ line_code run }
-    ensures line { result.line ≡ next_line run }
-    ensures run { result.run ≡ next_run run }
+// The next round's line. A run that has none stays as it was.
+pub fn next_line(run: &mut Run) -> Result<Line, Refusal>
+    ensures code { code_of_result result ≡ line_code run.old }
+    ensures line { result_unwrap_or result (line_with []) ≡ next_line run.old }
+    ensures run { run.new ≡ next_run run.old }
 {
-    if !has_next(run.rounds, run.number) {
-        return stopped(run, Refusal::BadRounds);
-    }
-    match try_next(run) {
-        Tried::Refused(refusal) => stopped(run, refusal),
-        Tried::Made(trial) => advanced(run, trial),
-    }
+    refuse_unless(has_next(run.rounds, run.number), Refusal::BadRounds)?;
+    let trial = try_next(*run)?;
+    Ok(advance(run, trial))
 }
 
 // The line that a refused input prints.
-pub fn refused_line(verdict: Verdict) -> Line
-    ensures { result ≡ refused_line (verdict_code verdict) }
+pub fn refused_line(verdict: Result<(), Refusal>) -> Line
+    ensures { result ≡ refused_line (code_of_result verdict) }
 {
-    let code = verdict_code(verdict);
+    let code = code_of_result(&verdict);
     Line::new().put_field(code.number as u32, b'\n')
 }

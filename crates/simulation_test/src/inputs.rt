@@ -15,12 +15,15 @@ const HEAD: usize = 8;
 // One byte more than a program takes.
 const TOO_LONG: usize = 65536;
 
-// The kinds of input.
-pub const WHOLE: usize = 0;
-
-pub const DAMAGED: usize = 1;
-
 const LARGEST: usize = 4294967295;
+
+// A head and a record as they are written, the same damaged, or bytes that nobody wrote as a record.
+#[derive(Clone, Copy, Debug, PartialEq, Eq)]
+pub enum Kind {
+    Whole,
+    Damaged,
+    Hostile,
+}
 
 fn after(place: usize, n: usize) -> usize {
     wrapping_add_usize(place, n)
@@ -88,19 +91,18 @@ fn rounds(x: usize) -> usize {
 fn write(p: Plan, table: &[Symbol], bytes: &mut [u8], from: usize) -> usize {
     let width = over(wide(p.q) < 65536, 2, 4);
     let end = after(from, after(after(8, width), product(width, table.len())));
-    if from <= end {
-        if end <= bytes.len() {
-            write_record(p, table, &mut bytes[from..end]);
-            return end;
-        }
+    if from <= end && end <= bytes.len() {
+        let _ = write_record(p, table, &mut bytes[from..end]);
+        end
+    } else {
+        0
     }
-    0
 }
 
 // The maker's table, or where it makes none a table of zeros.
 fn write_made(p: Plan, x: usize, table: &mut [Symbol], bytes: &mut [u8], from: usize) -> usize {
     let generator = narrow(residue(state(x, 5), wide(p.q)));
-    make_table(p.clusters, p.size, p.limit, p.q, generator, table);
+    let _ = make_table(p.clusters, p.size, p.limit, p.q, generator, table);
     write(p, table, bytes, from)
 }
 
@@ -108,27 +110,28 @@ fn write_plan(p: Plan, x: usize, bytes: &mut [u8], from: usize) -> usize {
     let n = product(product(p.clusters, p.size), p.rate);
     let mut table = [0 as Symbol; 256];
     if n > 256 {
-        return 0;
+        0
+    } else {
+        write_made(p, x, &mut table[..n], bytes, from)
     }
-    write_made(p, x, &mut table[..n], bytes, from)
 }
 
 // Cut short, far too long, just not too long, or one byte changed, often one of the last.
 fn damage(bytes: &mut [u8], end: usize, x: usize) -> usize {
-    let kind = draw(x, 32);
-    if kind < 3 {
-        return draw(state(x, 1), after(end, 1));
+    let n = draw(x, 32);
+    if n < 3 {
+        draw(state(x, 1), after(end, 1))
+    } else if n < 4 {
+        wrapping_sub_usize(TOO_LONG, draw(state(x, 1), 2))
+    } else {
+        let near = wrapping_sub_usize(end, after(draw(state(x, 2), 6), 1));
+        put_byte(
+            bytes,
+            over(n < 12, near, draw(state(x, 2), end)),
+            state(x, 3) / 256,
+        );
+        end
     }
-    if kind < 4 {
-        return wrapping_sub_usize(TOO_LONG, draw(state(x, 1), 2));
-    }
-    let near = wrapping_sub_usize(end, after(draw(state(x, 2), 6), 1));
-    put_byte(
-        bytes,
-        over(kind < 12, near, draw(state(x, 2), end)),
-        state(x, 3) / 256,
-    );
-    end
 }
 
 fn fill_front(bytes: &mut [u8], end: usize, x: usize) {
@@ -164,16 +167,20 @@ fn hostile(bytes: &mut [u8], x: usize) -> usize {
 }
 
 // Up to three bytes stand between the head and the record.
-pub fn make(kind: usize, case: usize, bytes: &mut [u8]) -> usize {
-    let x = state(case, case);
-    if kind > DAMAGED {
-        return hostile(bytes, x);
-    }
+fn whole(bytes: &mut [u8], x: usize) -> usize {
     let p = plan(x);
     put_head(bytes, cap(p, state(x, 6)), rounds(state(x, 7)));
-    let end = write_plan(p, x, bytes, after(HEAD, draw(state(x, 8), 4)));
-    if kind == DAMAGED {
-        return damage(bytes, end, state(x, 9));
+    write_plan(p, x, bytes, after(HEAD, draw(state(x, 8), 4)))
+}
+
+pub fn make(kind: Kind, case: usize, bytes: &mut [u8]) -> usize {
+    let x = state(case, case);
+    match kind {
+        Kind::Whole => whole(bytes, x),
+        Kind::Damaged => {
+            let end = whole(bytes, x);
+            damage(bytes, end, state(x, 9))
+        }
+        Kind::Hostile => hostile(bytes, x),
     }
-    end
 }

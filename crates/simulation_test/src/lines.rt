@@ -4,7 +4,7 @@ use testing::{byte_at, over};
 use texts::Line;
 
 // What a line should say: of the shown total the symbol, and the prime.
-#[derive(Clone, Copy)]
+#[derive(Clone, Copy, Debug, PartialEq, Eq)]
 pub struct Told {
     pub number: usize,
     pub last: usize,
@@ -35,6 +35,7 @@ fn back(text: &[u8], end: usize, byte: usize) -> usize {
 fn back_digits(text: &[u8], end: usize, n: usize) -> usize {
     let mut place = back(text, end, NOUGHT + n % 10);
     let mut left = n / 10;
+    // a while: each step takes a digit off what is left
     while left > 0 {
         place = back(text, place, NOUGHT + left % 10);
         left /= 10;
@@ -51,9 +52,10 @@ fn back_field(text: &[u8], end: usize, n: usize, byte: usize) -> usize {
 fn back_shown(text: &[u8], end: usize, t: Told) -> usize {
     let lacks = wrapping_sub_usize(t.q, t.total);
     if t.total < lacks {
-        return back_field(text, end, t.total, LINE_END);
+        back_field(text, end, t.total, LINE_END)
+    } else {
+        back(text, back_field(text, end, lacks, LINE_END), MINUS)
     }
-    back(text, back_field(text, end, lacks, LINE_END), MINUS)
 }
 
 // Whether a line says that and nothing else.

@@ -6,13 +6,15 @@ mod inputs;
 mod lines;
 mod second;
 
+use inputs::Kind;
 use lines::{Told, says, says_number};
-use refusals::Verdict;
+use refusals::Refusal;
 use second::Pool;
 use simulation::Run;
 use std::io;
 use std::num::wrapping_add_usize;
-use testing::{clip, over, print_counts};
+use std::ops::Range;
+use testing::{clip, over, print_counts, wide16};
 
 // What a comparison says where the two differ; otherwise it says the number that was answered.
 const DIFFER: usize = 19;
@@ -20,36 +22,53 @@ const DIFFER: usize = 19;
 // What a run without a next line is refused with.
 const NO_ROUND: usize = 18;
 
-// None, or the number of a line's place, from 1, at which something else is expected.
-const NO_MISTAKE: usize = 0;
-
-const MISTAKES: usize = 5;
-
-fn number_of(verdict: Verdict) -> usize {
-    refusals::verdict_code(verdict).number as usize
+// Which number of a line is expected one higher than it is.
+#[derive(Clone, Copy, Debug, PartialEq, Eq)]
+enum Mistake {
+    Number,
+    Last,
+    First,
+    Sum,
+    Total,
 }
 
-fn mistaken(n: usize, mistake: usize, place: usize) -> usize {
-    wrapping_add_usize(n, over(mistake == place, 1, 0))
+static MISTAKES: [Mistake; 5] = [
+    Mistake::Number,
+    Mistake::Last,
+    Mistake::First,
+    Mistake::Sum,
+    Mistake::Total,
+];
+
+fn mistake_of(case: usize) -> Mistake {
+    MISTAKES[case % 5]
 }
 
-fn expected(bytes: &[u8], p: Pool, number: usize, s: usize, mistake: usize) -> Told {
+fn one_higher(mut t: Told, mistake: Mistake) -> Told {
+    match mistake {
+        Mistake::Number => t.number = wrapping_add_usize(t.number, 1),
+        Mistake::Last => t.last = wrapping_add_usize(t.last, 1),
+        Mistake::First => t.first = wrapping_add_usize(t.first, 1),
+        Mistake::Sum => t.sum = wrapping_add_usize(t.sum, 1),
+        Mistake::Total => t.total = wrapping_add_usize(t.total, 1),
+    }
+    t
+}
+
+fn expected(bytes: &[u8], p: Pool, number: usize, s: usize, mistake: Option<Mistake>) -> Told {
     let t = second::told(bytes, p, number, s);
-    Told {
-        number: mistaken(t.number, mistake, 1),
-        last: mistaken(t.last, mistake, 2),
-        first: mistaken(t.first, mistake, 3),
-        sum: mistaken(t.sum, mistake, 4),
-        total: mistaken(t.total, mistake, 5),
-        q: t.q,
+    match mistake {
+        Some(mistake) => one_higher(t, mistake),
+        None => t,
     }
 }
 
 // After the last round there is no line.
-fn ended(run: Run) -> usize {
-    let next = simulation::next_line(run);
-    let answer = next.answer;
-    over(number_of(answer) == NO_ROUND, 0, DIFFER)
+fn ended(mut run: Run) -> usize {
+    match simulation::next_line(&mut run) {
+        Ok(_) => DIFFER,
+        Err(refusal) => over(wide16(refusal.number()) == NO_ROUND, 0, DIFFER),
+    }
 }
 
 // A run and the second implementation's state, and whether all lines before agree.
@@ -60,20 +79,21 @@ struct Turn {
     agrees: bool,
 }
 
-fn turned(bytes: &[u8], p: Pool, k: usize, t: Turn, mistake: usize) -> Turn {
-    let run = t.run;
-    let next = simulation::next_line(run);
-    let line = next.line;
-    let later = next.run;
+fn turned(bytes: &[u8], p: Pool, k: usize, t: Turn, mistake: Option<Mistake>) -> Turn {
+    let mut run = t.run;
     let told = expected(bytes, p, wrapping_add_usize(k, 1), t.state, mistake);
+    let agrees = match simulation::next_line(&mut run) {
+        Ok(line) => says(line, told),
+        Err(_) => false,
+    };
     Turn {
-        run: later,
+        run,
         state: second::state_after(t.state, second::draws(p)),
-        agrees: t.agrees && says(line, told),
+        agrees: t.agrees && agrees,
     }
 }
 
-fn played(bytes: &[u8], first: Run, mistake: usize) -> usize {
+fn played(bytes: &[u8], first: Run, mistake: Option<Mistake>) -> usize {
     let p = second::read_pool(bytes);
     let mut t = Turn {
         run: first,
@@ -83,50 +103,58 @@ fn played(bytes: &[u8], first: Run, mistake: usize) -> usize {
     for k in 0..p.rounds {
         t = turned(bytes, p, k, t, mistake);
     }
-    let run = t.run;
-    over(t.agrees, ended(run), DIFFER)
+    over(t.agrees, ended(t.run), DIFFER)
 }
 
-fn refused(verdict: Verdict, number: usize) -> usize {
-    let line = simulation::refused_line(verdict);
+fn refused(refusal: Refusal, number: usize) -> usize {
+    let line = simulation::refused_line(Err(refusal));
     over(says_number(line, number), number, DIFFER)
 }
 
-fn compared(bytes: &[u8], mistake: usize) -> usize {
+fn compared(bytes: &[u8], mistake: Option<Mistake>) -> usize {
     let number = second::number(bytes);
-    let opened = simulation::open(bytes);
-    let answer = opened.answer;
-    let run = opened.run;
-    if number_of(answer) != number {
-        return DIFFER;
+    match simulation::open(bytes) {
+        Ok(run) => if number == 0 {
+            played(bytes, run, mistake)
+        } else {
+            DIFFER
+        },
+        Err(refusal) => if wide16(refusal.number()) == number {
+            refused(
+                refusal,
+                wrapping_add_usize(number, over(mistake.is_some(), 1, 0)),
+            )
+        } else {
+            DIFFER
+        },
     }
-    if number == 0 {
-        return played(bytes, run, mistake);
-    }
-    refused(answer, wrapping_add_usize(number, mistake))
 }
 
 // An input outside the buffer would be a fault of this test.
-fn outcome(kind: usize, case: usize, mistake: usize, buffer: &mut [u8]) -> usize {
+fn outcome(kind: Kind, case: usize, mistake: Option<Mistake>, buffer: &mut [u8]) -> usize {
     let end = inputs::make(kind, case, buffer);
     if end > buffer.len() {
-        return DIFFER;
+        DIFFER
+    } else {
+        compared(&buffer[..end], mistake)
     }
-    compared(&buffer[..end], mistake)
 }
 
 fn report(
     rt: &impl Print,
     name: &str,
-    kind: usize,
-    from: usize,
-    to: usize,
-    mistakes: usize,
+    kind: Kind,
+    cases: Range<usize>,
+    mistaken: bool,
     buffer: &mut [u8],
 ) -> io::Result<()> {
     let mut tally = [0usize; DIFFER + 1];
-    for case in from..to {
-        let mistake = over(mistakes == 0, NO_MISTAKE, case % MISTAKES + 1);
+    for case in cases {
+        let mistake = if mistaken {
+            Some(mistake_of(case))
+        } else {
+            None
+        };
         let n = clip(outcome(kind, case, mistake, buffer), DIFFER);
         tally[n] = wrapping_add_usize(tally[n], 1);
     }
@@ -136,24 +164,29 @@ fn report(
 
 fn main(rt: HostRuntime) -> io::Result<()> {
     let mut buffer = [0u8; 65536];
-    report(&rt, "whole:    ", inputs::WHOLE, 0, 6000, 0, &mut buffer)?;
+    report(&rt, "whole:    ", Kind::Whole, 0..6000, false, &mut buffer)?;
     report(
         &rt,
         "damaged:  ",
-        inputs::DAMAGED,
-        10000,
-        18000,
-        0,
+        Kind::Damaged,
+        10000..18000,
+        false,
         &mut buffer,
     )?;
-    report(&rt, "hostile:  ", 2, 20000, 28000, 0, &mut buffer)?;
+    report(
+        &rt,
+        "hostile:  ",
+        Kind::Hostile,
+        20000..28000,
+        false,
+        &mut buffer,
+    )?;
     report(
         &rt,
         "mistaken: ",
-        inputs::WHOLE,
-        30000,
-        30200,
-        1,
+        Kind::Whole,
+        30000..30200,
+        true,
         &mut buffer,
     )
 }

@@ -3,7 +3,9 @@
 // is asked of the library; another test holds that to an implementation of its own.
 use crate::lines::Told;
 use std::num::{wrapping_add_usize, wrapping_sub_usize};
-use testing::{byte_at, is_outside, over, product, product_mod, quotient, residue, word_at};
+use testing::{
+    byte_at, is_outside, over, product, product_mod, quotient, residue, wide16, word_at,
+};
 
 // The bytes of a symbol: in an old record, and in a wide one, which ends with the mark's byte.
 const OLD: usize = 2;
@@ -20,7 +22,7 @@ const WHOLE: usize = 4294967296;
 const HALF: usize = 65536;
 
 // What the bytes say, and the place of the first symbol.
-#[derive(Clone, Copy)]
+#[derive(Clone, Copy, Debug, PartialEq, Eq)]
 pub struct Pool {
     pub cap: usize,
     pub rounds: usize,
@@ -39,9 +41,10 @@ fn after(place: usize, n: usize) -> usize {
 fn number_at(bytes: &[u8], i: usize, width: usize) -> usize {
     let low = word_at(bytes, i);
     if width == WIDE {
-        return low % HALF + word_at(bytes, after(i, OLD)) % HALF * HALF;
+        low % HALF + word_at(bytes, after(i, OLD)) % HALF * HALF
+    } else {
+        low
     }
-    low
 }
 
 pub fn read_pool(bytes: &[u8]) -> Pool {
@@ -77,12 +80,12 @@ pub fn number(bytes: &[u8]) -> usize {
     if is_outside(number_at(bytes, 4, WIDE), 10000) {
         return 18;
     }
-    let code = refusals::verdict_code(reports::vet_record(&bytes[HEAD..]));
-    let vetted = code.number as usize;
+    let vetted = wide16(refusals::code_of_result(&reports::vet_record(&bytes[HEAD..])).number);
     if is_outside(vetted, 5) {
-        return over(is_bad_cap(read_pool(bytes)), 16, vetted);
+        over(is_bad_cap(read_pool(bytes)), 16, vetted)
+    } else {
+        vetted
     }
-    vetted
 }
 
 fn next(s: usize) -> usize {

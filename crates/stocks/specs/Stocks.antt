@@ -77,7 +77,7 @@ abbrev pub opened : ℕ → List ℕ → List ℕ → Stock
 opened pools reserves limits =
     record { pools = pools; reserves = tab max_pools (at reserves); limits = tab max_pools (at limits); drawn = zeros max_pools }
 
--- the stock that is handed back: nothing but zeros where the opening is refused
+-- the stock that is opened; nothing but zeros stand for it where the opening is refused
 abbrev pub open_stock : ℕ → List ℕ → List ℕ → List ℕ → Stock
 open_stock pools reserves limits stream = if_accepted (open_code pools reserves limits stream) (opened pools reserves limits) (opened 0 [] [])
 

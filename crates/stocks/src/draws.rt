@@ -1,14 +1,15 @@
 // Stocks: opened, and drawn from.
-ghost use Rattle.std.specs.Prelude.{◌≡◌, length};
-ghost use Rattle.refusals.specs.Codes.{first_of, verdict_code};
+ghost use Rattle.std.specs.Prelude.{◌≡◌, [], length};
+ghost use Rattle.std.specs.Result.{result_unwrap_or};
+ghost use Rattle.refusals.specs.Codes.{first_of, code_of_result};
 ghost use Rattle.stocks.specs.Stocks.{max_pools, opened, open_code, open_stock, draw_of, with_drawn, stock_code, stock_after, out_after};
 ghost use Rattle.stocks.specs.Machine.{state_checks, ask_checks, Sound, Countable};
 
+use crate::Stock;
 use crate::entries::{no_symbols, padded};
-use crate::{Stock, StockStep};
 use arithmetic::Symbol;
 use plans::{length_fits, one_of};
-use refusals::{Refusal, Verdict};
+use refusals::{Refusal, Step, refuse_unless};
 use streams::draw_at;
 
 impl Stock {
@@ -16,14 +17,11 @@ impl Stock {
     fn fresh(pools: usize, reserves: &[usize], limits: &[usize]) -> Stock
         ensures { result ≡ opened pools reserves.now limits.now }
     {
-        let kept = padded(reserves);
-        let most = padded(limits);
-        let none = no_symbols();
         Stock {
             pools,
-            reserves: kept,
-            limits: most,
-            drawn: none,
+            reserves: padded(reserves),
+            limits: padded(limits),
+            drawn: no_symbols(),
         }
     }
 
@@ -33,89 +31,74 @@ impl Stock {
         reserves: &[usize],
         limits: &[usize],
         stream: &[Symbol],
-    ) -> Verdict
-        ensures { verdict_code result ≡ open_code pools reserves.now limits.now stream.now }
+    ) -> Result<(), Refusal>
+        ensures { code_of_result result ≡ open_code pools reserves.now limits.now stream.now }
     {
-        if !one_of(Stock::MAX_POOLS, pools) {
-            return Verdict::Refused(Refusal::OutOfBounds);
-        }
-        if reserves.len() != pools {
-            return Verdict::Refused(Refusal::WrongLength);
-        }
-        if limits.len() != pools {
-            return Verdict::Refused(Refusal::WrongLength);
-        }
-        let made = Stock::fresh(pools, reserves, limits);
-        if !made.is_sound(stream.len()) {
-            return Verdict::Refused(Refusal::BadStock);
-        }
-        Verdict::Accepted
+        refuse_unless(one_of(Stock::MAX_POOLS, pools), Refusal::OutOfBounds)?;
+        refuse_unless(
+            reserves.len() == pools && limits.len() == pools,
+            Refusal::WrongLength,
+        )?;
+        let stock = Stock::fresh(pools, reserves, limits);
+        refuse_unless(stock.is_sound(stream.len()), Refusal::BadStock)
     }
 
-    // A stock for one to eight pools on this stream. A refused opening hands back a stock of zeros. The promise also fixes the bound that stands by name.
-    pub fn open(pools: usize, reserves: &[usize], limits: &[usize], stream: &[Symbol]) -> StockStep
-        ensures code { verdict_code result.answer ≡ open_code pools reserves.now limits.now stream.now }
-        ensures stock { result.stock ≡ open_stock pools reserves.now limits.now stream.now }
+    // A stock for one to eight pools on this stream. The promise also fixes the bound that stands by name.
+    pub fn open(
+        pools: usize,
+        reserves: &[usize],
+        limits: &[usize],
+        stream: &[Symbol],
+    ) -> Result<Stock, Refusal>
+        ensures code { code_of_result result ≡ open_code pools reserves.now limits.now stream.now }
+        ensures stock { result_unwrap_or result (opened 0 [] []) ≡ open_stock pools reserves.now limits.now stream.now }
         ensures most { Stock.MAX_POOLS ≡ max_pools }
     {
-        let opening = Stock::check_opening(pools, reserves, limits, stream);
-        if !opening.is_accepted() {
-            return StockStep {
-                answer: opening,
-                stock: Stock::fresh(0, &[], &[]),
-            };
-        }
-        StockStep {
-            answer: opening,
-            stock: Stock::fresh(pools, reserves, limits),
-        }
+        Stock::check_opening(pools, reserves, limits, stream)?;
+        Ok(Stock::fresh(pools, reserves, limits))
     }
 
     // A stock that is handed in: 1, 21.
-    fn check_state(self, size: usize) -> Verdict
-        ensures { verdict_code result ≡ first_of (state_checks size self) }
+    fn check_state(self, size: usize) -> Result<(), Refusal>
+        ensures { code_of_result result ≡ first_of (state_checks size self) }
     {
-        if !one_of(Stock::MAX_POOLS, self.pools) {
-            return Verdict::Refused(Refusal::OutOfBounds);
-        }
-        if !self.is_sound(size) {
-            return Verdict::Refused(Refusal::BadStock);
-        }
-        Verdict::Accepted
+        refuse_unless(one_of(Stock::MAX_POOLS, self.pools), Refusal::OutOfBounds)?;
+        refuse_unless(self.is_sound(size), Refusal::BadStock)
     }
 
     // What is asked of a sound stock: 8, 9, 4, 20, 13.
-    fn check_asked(self, size: usize, pool: usize, length: usize, room: usize) -> Verdict
+    fn check_asked(
+        self,
+        size: usize,
+        pool: usize,
+        length: usize,
+        room: usize,
+    ) -> Result<(), Refusal>
         requires { Sound size self }
-        ensures { verdict_code result ≡ first_of (ask_checks size self pool length room) }
+        ensures { code_of_result result ≡ first_of (ask_checks size self pool length room) }
     {
-        if !one_of(self.pools, pool) {
-            return Verdict::Refused(Refusal::UnknownNumber);
-        }
-        if !length_fits(length) {
-            return Verdict::Refused(Refusal::BadBlockLength);
-        }
-        if room != length {
-            return Verdict::Refused(Refusal::WrongLength);
-        }
+        refuse_unless(one_of(self.pools, pool), Refusal::UnknownNumber)?;
+        refuse_unless(length_fits(length), Refusal::BadBlockLength)?;
+        refuse_unless(room == length, Refusal::WrongLength)?;
         let i = pool - 1;
-        if self.limits[i] - self.drawn[i] < length {
-            return Verdict::Refused(Refusal::PastLimit);
-        }
+        refuse_unless(self.limits[i] - self.drawn[i] >= length, Refusal::PastLimit)?;
         let left = size - self.position();
-        if left < length || left - length < self.owed_to_others(pool) {
-            return Verdict::Refused(Refusal::StreamTooShort);
-        }
-        Verdict::Accepted
+        refuse_unless(
+            left >= length && left - length >= self.owed_to_others(pool),
+            Refusal::StreamTooShort,
+        )
     }
 
-    fn check_draw(self, stream: &[Symbol], pool: usize, length: usize, out: &[Symbol]) -> Verdict
-        ensures { verdict_code result ≡ stock_code stream.now self (draw_of pool length out.now) }
+    fn check_draw(
+        self,
+        stream: &[Symbol],
+        pool: usize,
+        length: usize,
+        out: &[Symbol],
+    ) -> Result<(), Refusal>
+        ensures { code_of_result result ≡ stock_code stream.now self (draw_of pool length out.now) }
     {
-        let state = self.check_state(stream.len());
-        if !state.is_accepted() {
-            return state;
-        }
+        self.check_state(stream.len())?;
         self.check_asked(stream.len(), pool, length, out.len())
     }
 
@@ -125,7 +108,7 @@ impl Stock {
         ensures { result ≡ with_drawn self pool length }
     {
         let i = pool - 1;
-        self.drawn[i] = self.drawn[i] + length;
+        self.drawn[i] += length;
         self
     }
 
@@ -136,24 +119,18 @@ impl Stock {
         pool: usize,
         length: usize,
         out: &mut [Symbol],
-    ) -> StockStep
-        ensures { (verdict_code result.answer ≡ stock_code stream.now self (draw_of pool length out.old))
-            × (result.stock ≡ stock_after stream.now self (draw_of pool length out.old))
+    ) -> Step<Stock>
+        ensures { (code_of_result result.answer ≡ stock_code stream.now self (draw_of pool length out.old))
+            × (result.state ≡ stock_after stream.now self (draw_of pool length out.old))
             × (out.new ≡ out_after stream.now self (draw_of pool length out.old)) }
     {
-        let answer = self.check_draw(stream, pool, length, out);
-        if !answer.is_accepted() {
-            return StockStep {
-                answer,
-                stock: self,
-            };
-        }
-        let at = self.position();
-        // It is not refused: what was checked leaves at least so many symbols.
-        let taken = draw_at(stream, at, length, out);
-        StockStep {
-            answer,
-            stock: self.moved(pool, length),
+        match self.check_draw(stream, pool, length, out) {
+            Ok(()) => {
+                // It is not refused: what was checked leaves at least so many symbols.
+                draw_at(stream, self.position(), length, out);
+                Step::made(self.moved(pool, length))
+            }
+            Err(refusal) => Step::refused(refusal, self),
         }
     }
 }

@@ -9,20 +9,14 @@ use crate::Stock;
 pub(crate) fn owed_of(reserve: usize, drawn: usize) -> usize
     ensures { result ≡ reserve - drawn }
 {
-    if reserve < drawn {
-        return 0;
-    }
-    reserve - drawn
+    reserve.saturating_sub(drawn)
 }
 
 // What a pool has drawn and what it is still sure of, together.
 pub(crate) fn held_of(reserve: usize, drawn: usize) -> usize
     ensures { result ≡ drawn + (reserve - drawn) }
 {
-    if reserve < drawn {
-        return drawn;
-    }
-    reserve
+    reserve.max(drawn)
 }
 
 pub(crate) fn no_symbols() -> [usize; Stock::MAX_POOLS]

@@ -15,27 +15,16 @@ impl Stock {
         ensures { result ≡ entry_fits self i }
     {
         let limit = self.limits[i];
-        if limit < self.reserves[i] {
-            return false;
-        }
-        if limit < self.drawn[i] {
-            return false;
-        }
-        if i < self.pools {
-            return true;
-        }
-        limit == 0
+        self.reserves[i] <= limit && self.drawn[i] <= limit && (i < self.pools || limit == 0)
     }
 
     fn entries_fit(self) -> bool
         ensures { result ≡ all_to max_pools (entry_fits self) }
     {
-        let mut i = 0;
-        while i < Stock::MAX_POOLS {
+        for i in 0..Stock::MAX_POOLS {
             if !self.entry_fits(i) {
                 return false;
             }
-            i += 1;
         }
         true
     }
@@ -47,14 +36,12 @@ impl Stock {
         ensures { result ≡ held_fits size self }
     {
         let mut left = size;
-        let mut i = 0;
-        while i < self.pools {
+        for i in 0..self.pools {
             let mine = held_of(self.reserves[i], self.drawn[i]);
             if left < mine {
                 return false;
             }
             left -= mine;
-            i += 1;
         }
         true
     }
@@ -64,10 +51,7 @@ impl Stock {
         requires { self.pools ≤ max_pools }
         ensures { result ≡ fits size self }
     {
-        if !self.entries_fit() {
-            return false;
-        }
-        self.fits_on(size)
+        self.entries_fit() && self.fits_on(size)
     }
 
     // What all pools have drawn.
@@ -76,10 +60,8 @@ impl Stock {
         ensures { result ≡ position self }
     {
         let mut sum = 0;
-        let mut i = 0;
-        while i < self.pools {
+        for i in 0..self.pools {
             sum += self.drawn[i];
-            i += 1;
         }
         sum
     }
@@ -90,12 +72,10 @@ impl Stock {
         ensures { result ≡ owed_to_others self pool }
     {
         let mut sum = 0;
-        let mut i = 0;
-        while i < self.pools {
+        for i in 0..self.pools {
             if i + 1 != pool {
                 sum += owed_of(self.reserves[i], self.drawn[i]);
             }
-            i += 1;
         }
         sum
     }

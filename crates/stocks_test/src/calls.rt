@@ -1,8 +1,8 @@
 // Calls of the library, held to what the log says.
 use crate::log;
-use crate::log::{Ask, SYMBOLS, drawn_by, noted, nothing, number, opened, opens, reached, same};
+use crate::log::{Ask, SYMBOLS, drawn_by_all, noted, number, opened, opens, reached, same};
 use arithmetic::Symbol;
-use refusals::Verdict;
+use refusals::Refusal;
 use std::num::wrapping_add_usize;
 use stocks::Stock;
 use testing::{clip, fill, is_outside, over};
@@ -18,8 +18,8 @@ const ROOM: usize = 66;
 const UNTOUCHED: Symbol = 4294967295;
 
 // A number that no answer has where a detail is not 0: stocks give none.
-fn number_of(verdict: Verdict) -> usize {
-    let code = refusals::verdict_code(verdict);
+fn number_of<T>(answer: &Result<T, Refusal>) -> usize {
+    let code = refusals::code_of_result(answer);
     over(
         (code.first | code.second) == 0,
         code.number as usize,
@@ -58,11 +58,13 @@ pub fn asked(
     let n = clip(ask.room, ROOM);
     let s = clip(size, SYMBOLS);
     let step = before.draw(&stream[..s], ask.pool, ask.length, &mut out[..n]);
-    let answer = step.answer;
-    let stock = step.stock;
     let written = over(expected == 0, ask.length, 0);
-    let right = same(stock, after) && holds(&out, &stream, from, written);
-    over(right && number_of(answer) == expected, expected, DIFFER)
+    let right = same(step.state, after) && holds(&out, &stream, from, written);
+    over(
+        right && number_of(&step.answer) == expected,
+        expected,
+        DIFFER,
+    )
 }
 
 // A draw on a stock that is handed in: 1, 21 where no draws leave it, and then what the draw itself is refused with.
@@ -76,10 +78,10 @@ pub fn handed(stock: Stock, ask: Ask, x: usize, size: usize) -> usize {
     } else {
         stock
     };
-    asked(stock, ask, x, size, drawn_by(log, 0), expected, after)
+    asked(stock, ask, x, size, drawn_by_all(log), expected, after)
 }
 
-// An opening with lists of these lengths: the answer, and the stock handed back.
+// An opening with lists of these lengths: the answer, and the stock handed back where it is not refused.
 fn opened_as(
     wanted: Stock,
     many_reserves: usize,
@@ -94,24 +96,27 @@ fn opened_as(
     let a = clip(many_reserves, Stock::MAX_POOLS);
     let b = clip(many_limits, Stock::MAX_POOLS);
     let s = clip(size, SYMBOLS);
-    let step = Stock::open(wanted.pools, &reserves[..a], &limits[..b], &stream[..s]);
-    let answer = step.answer;
-    let stock = step.stock;
-    let right = same(stock, after) && number_of(answer) == expected;
-    over(right, expected, DIFFER)
+    let answer = Stock::open(wanted.pools, &reserves[..a], &limits[..b], &stream[..s]);
+    let right = match answer {
+        Ok(stock) => same(stock, after),
+        Err(_) => true,
+    };
+    over(right && number_of(&answer) == expected, expected, DIFFER)
 }
 
-// 1, 4, 21. A refused opening hands back zeros.
+// 1, 4, 21.
 pub fn opening(wanted: Stock, many_reserves: usize, many_limits: usize, size: usize) -> usize {
     let pools = wanted.pools;
     let log = opened(wanted, size);
     let sized = many_reserves == pools && many_limits == pools;
     let judged = over(sized, over(opens(log), 0, 21), 4);
     let expected = over(is_outside(pools, Stock::MAX_POOLS), 1, judged);
-    let after = if expected == 0 {
-        log::stock(log)
-    } else {
-        nothing()
-    };
-    opened_as(wanted, many_reserves, many_limits, size, expected, after)
+    opened_as(
+        wanted,
+        many_reserves,
+        many_limits,
+        size,
+        expected,
+        log::stock(log),
+    )
 }

@@ -1,7 +1,7 @@
 // Cases, each made of its number alone.
 use crate::calls::{DIFFER, asked, handed, opening};
 use crate::log;
-use crate::log::{Ask, Log, MOST, SYMBOLS, drawn_by, noted, number, opened, plus};
+use crate::log::{Ask, Log, MOST, SYMBOLS, drawn_by_all, noted, number, opened, plus};
 use std::num::{wrapping_add_usize, wrapping_sub_usize};
 use stocks::Stock;
 use testing::{clip, draw, over, seed, state};
@@ -152,16 +152,16 @@ pub fn drawn_opening(case: usize) -> usize {
 }
 
 // A log after one draw more, and what the comparison says.
-#[derive(Clone, Copy)]
+#[derive(Clone, Copy, Debug, PartialEq, Eq)]
 struct Turn {
     log: Log,
     found: usize,
 }
 
-fn taken(log: Log, ask: Ask, x: usize, mistake: usize) -> Turn {
+fn taken(log: Log, ask: Ask, x: usize, too_far: usize) -> Turn {
     let expected = number(log, ask);
     let after = if expected == 0 { noted(log, ask) } else { log };
-    let from = wrapping_add_usize(drawn_by(log, 0), mistake);
+    let from = wrapping_add_usize(drawn_by_all(log), too_far);
     let found = asked(
         log::stock(log),
         ask,
@@ -174,15 +174,15 @@ fn taken(log: Log, ask: Ask, x: usize, mistake: usize) -> Turn {
     Turn { log: after, found }
 }
 
-// A run of draws from an opening. It says the number of the last draw where all draws agree. A mistake is a place on the stream that is one too far.
-pub fn run(case: usize, mistake: usize) -> usize {
+// A run of draws from an opening. It says the number of the last draw where all draws agree. Symbols are expected from so many places too far on the stream.
+pub fn run(case: usize, too_far: usize) -> usize {
     let x = seed(case);
     let whole = good(x, false);
     let n = clip(plus(held(whole), pick(x, 44, 12)), SYMBOLS);
     let mut log = opened(whole, n);
     let mut number: usize = 0;
     for i in 0..DRAWS {
-        let next = taken(log, ask(state(x, plus(i, 50)), log.pools), x, mistake);
+        let next = taken(log, ask(state(x, plus(i, 50)), log.pools), x, too_far);
         log = next.log;
         number = over(number == DIFFER, DIFFER, next.found);
     }

@@ -12,7 +12,7 @@ pub const MOST: usize = 18446744073709551615;
 
 const LONGEST_BLOCK: usize = 64;
 
-#[derive(Clone, Copy)]
+#[derive(Clone, Copy, Debug, PartialEq, Eq)]
 pub struct Log {
     pub pools: usize,
     pub reserves: [usize; Stock::MAX_POOLS],
@@ -26,7 +26,7 @@ pub struct Log {
 }
 
 // A draw: its pool, how many symbols it asks for, and how many the buffer holds.
-#[derive(Clone, Copy)]
+#[derive(Clone, Copy, Debug, PartialEq, Eq)]
 pub struct Ask {
     pub pool: usize,
     pub length: usize,
@@ -39,11 +39,18 @@ pub fn plus(a: usize, b: usize) -> usize {
     over(sum < a, MOST, sum)
 }
 
-// What all pools have drawn where the number is 0, and what this one has drawn otherwise.
+pub fn drawn_by_all(log: Log) -> usize {
+    let mut sum: usize = 0;
+    for i in 0..clip(log.many, SYMBOLS) {
+        sum = plus(sum, log.lengths[i]);
+    }
+    sum
+}
+
 pub fn drawn_by(log: Log, pool: usize) -> usize {
     let mut sum: usize = 0;
     for i in 0..clip(log.many, SYMBOLS) {
-        if pool == 0 || log.by[i] == pool {
+        if log.by[i] == pool {
             sum = plus(sum, log.lengths[i]);
         }
     }
@@ -66,7 +73,7 @@ fn owed_to_others(log: Log, pool: usize) -> usize {
 // 8, 9, 4, 20, 13, from the last to the first.
 pub fn number(log: Log, ask: Ask) -> usize {
     let limit = log.limits[wrapping_sub_usize(ask.pool, 1) % Stock::MAX_POOLS];
-    let wanted = plus(drawn_by(log, 0), ask.length);
+    let wanted = plus(drawn_by_all(log), ask.length);
     let short = over(
         plus(wanted, owed_to_others(log, ask.pool)) > log.size,
         13,
@@ -133,16 +140,6 @@ pub fn stock(log: Log) -> Stock {
         reserves,
         limits,
         drawn,
-    }
-}
-
-pub fn nothing() -> Stock {
-    let none = [0usize; Stock::MAX_POOLS];
-    Stock {
-        pools: 0,
-        reserves: none,
-        limits: none,
-        drawn: none,
     }
 }
 

@@ -11,8 +11,7 @@ mod log;
 use calls::DIFFER;
 use cases::SMALL;
 use std::io;
-use std::num::wrapping_add_usize;
-use testing::{clip, print_counts};
+use testing::report;
 
 // How many cases are drawn of openings, of stocks and of runs; the last are runs with a mistake in what is expected, which shows where a draw is answered.
 const OPENINGS: usize = 20000;
@@ -23,30 +22,48 @@ const RUNS: usize = 4000;
 
 const MISTAKEN: usize = 200;
 
-fn outcome(kind: usize, case: usize) -> usize {
-    match kind {
-        0 => cases::drawn_opening(case),
-        1 => cases::small_stock(case),
-        2 => cases::drawn_stock(case),
-        3 => cases::run(case, 0),
-        _ => cases::run(case, 1),
-    }
+fn single_stocks(rt: &impl Print) -> io::Result<()> {
+    report(
+        rt,
+        "openings:      ",
+        "answered",
+        DIFFER,
+        0..OPENINGS,
+        cases::drawn_opening,
+    )?;
+    report(
+        rt,
+        "small stocks:  ",
+        "answered",
+        DIFFER,
+        0..SMALL,
+        cases::small_stock,
+    )?;
+    report(
+        rt,
+        "drawn stocks:  ",
+        "answered",
+        DIFFER,
+        0..STOCKS,
+        cases::drawn_stock,
+    )
 }
 
-fn report(rt: &impl Print, name: &str, kind: usize, cases: usize) -> io::Result<()> {
-    let mut tally = [0usize; DIFFER + 1];
-    for case in 0..cases {
-        let n = clip(outcome(kind, case), DIFFER);
-        tally[n] = wrapping_add_usize(tally[n], 1);
-    }
-    print!(rt; "{name}")?;
-    print_counts(rt, "answered", &tally)
+fn runs_of_draws(rt: &impl Print) -> io::Result<()> {
+    report(rt, "runs of draws: ", "answered", DIFFER, 0..RUNS, |case| {
+        cases::run(case, 0)
+    })?;
+    report(
+        rt,
+        "mistaken runs: ",
+        "answered",
+        DIFFER,
+        0..MISTAKEN,
+        |case| { cases::run(case, 1) },
+    )
 }
 
 fn main(rt: HostRuntime) -> io::Result<()> {
-    report(&rt, "openings:      ", 0, OPENINGS)?;
-    report(&rt, "small stocks:  ", 1, SMALL)?;
-    report(&rt, "drawn stocks:  ", 2, STOCKS)?;
-    report(&rt, "runs of draws: ", 3, RUNS)?;
-    report(&rt, "mistaken runs: ", 4, MISTAKEN)
+    single_stocks(&rt)?;
+    runs_of_draws(&rt)
 }

@@ -58,20 +58,14 @@ pub fn drawn(x: usize, i: usize) -> usize
 pub fn residue(a: usize, n: usize) -> usize
     ensures { result ≡ residue_of n a }
 {
-    if n == 0 {
-        return 0;
-    }
-    a % n
+    if n == 0 { 0 } else { a % n }
 }
 
 // How often n is in a; 0 where n is 0.
 pub fn quotient(a: usize, n: usize) -> usize
     ensures { result ≡ quotient_of n a }
 {
-    if n == 0 {
-        return 0;
-    }
-    a / n
+    if n == 0 { 0 } else { a / n }
 }
 
 // The product of two numbers below 65,536, as counts are. By the remainders it fits for every input.
@@ -117,6 +111,7 @@ pub fn is_prime(q: usize) -> bool
     ensures { result ≡ is_prime q }
 {
     let mut d: usize = 2;
+    // a while: it ends at the root of q, which is not known before
     while q / d >= d {
         if q % d == 0 {
             return false;
@@ -155,10 +150,7 @@ pub fn over(fault: bool, number: usize, otherwise: usize) -> usize
 pub fn is_outside(a: usize, n: usize) -> bool
     ensures { result ≡ outside_of a n }
 {
-    if a < 1 {
-        return true;
-    }
-    a > n
+    a < 1 || a > n
 }
 
 pub fn wide(a: Symbol) -> usize

@@ -44,10 +44,11 @@ pub fn put_byte(b: &mut [u8], i: usize, a: usize)
 pub fn word_at(b: &[u8], i: usize) -> usize
     ensures { result ≡ word_at b.now i }
 {
-    if i >= b.len() {
-        return 0;
+    if i < b.len() {
+        byte_at(b, i) + byte_at(b, i + 1) * 256
+    } else {
+        0
     }
-    byte_at(b, i) + byte_at(b, i + 1) * 256
 }
 
 // Numbers drawn from a seed, below q.

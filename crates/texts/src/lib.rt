@@ -5,7 +5,7 @@ ghost use Rattle.std.specs.Prelude.{◌≡◌, [], ◌∷◌};
 ghost use Rattle.texts.specs.Texts.{decimal, signed_decimal, field, typed, line_with};
 
 // A line of at most 56 bytes, room for five numbers of 32 bits; 0 past its end.
-#[derive(Clone, Copy)]
+#[derive(Clone, Copy, Debug, PartialEq, Eq)]
 pub struct Line {
     pub text: [u8; Line::PLACES],
     pub length: usize,
@@ -28,10 +28,9 @@ impl Line {
     pub fn put(mut self, byte: u8) -> Line
         ensures { result ≡ typed self (byte ∷ []) }
     {
-        let end = self.length;
-        if end < Line::PLACES {
-            self.text[end] = byte;
-            self.length = end + 1;
+        if self.length < Line::PLACES {
+            self.text[self.length] = byte;
+            self.length += 1;
         }
         self
     }
@@ -41,10 +40,10 @@ impl Line {
         ensures { result ≡ typed self (decimal n) }
     {
         if n < 10 {
-            return self.put(48 + n as u8);
+            self.put(b'0' + n as u8)
+        } else {
+            self.put_decimal(n / 10).put(b'0' + (n % 10) as u8)
         }
-        let line = self.put_decimal(n / 10);
-        line.put(48 + (n % 10) as u8)
     }
 
     // A number and the byte after it.
@@ -60,8 +59,9 @@ impl Line {
     {
         let number = n as i64;
         if number < 0 {
-            return self.put(b'-').put_decimal((-number) as u32);
+            self.put(b'-').put_decimal((-number) as u32)
+        } else {
+            self.put_decimal(number as u32)
         }
-        self.put_decimal(number as u32)
     }
 }

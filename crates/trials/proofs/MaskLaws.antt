@@ -34,7 +34,7 @@ use Rattle.keys.specs.Keys.{keys_of, block_checks, unvetted_code, unvetted_after
 use Rattle.keys.proofs.KeyLaws.{keys-are, length-keys, keys-at}
 use Rattle.signed.specs.Numbers.{symbol_of, shown_of}
 use Rattle.signed.specs.Caps.{cap_fits, all_in_cap}
-use Rattle.signed.specs.SignedBlocks.{signed_upload_after, totals_code, totals_after}
+use Rattle.signed.specs.SignedBlocks.{signed_upload_code, signed_upload_after, totals_code, totals_after}
 use Rattle.signed.proofs.CheckLaws.{Shape, positive, reading-room}
 use Rattle.signed.proofs.NumberLaws.{half-fits}
 use Rattle.signed.proofs.SignedLaws.{signed-taken, symbols-shown}
@@ -56,22 +56,26 @@ module _ (P : Plan) (m : ℕ) (fit : Fit P m) where
 
   -- one reading and one key's symbol
   pub one-upload : (r : ℕ) (key out : List ℕ) → r ≤ m → length key ≡ 1 → all_below P.q key ≡ true → length out ≡ 1
-      → at (signed_upload_after P m 1 (pos r ∷ []) key out) 0 ≡ (r + at key 0) % P.q
+      → (at (signed_upload_after P m 1 (pos r ∷ []) key out) 0 ≡ (r + at key 0) % P.q) × (accepted ≡ signed_upload_code P m 1 (pos r ∷ []) key out)
   one-upload r key out inside size below room =
       let q : ℕ = P.q in
       let vec : Vector q 1 key = record { size = size; small = λ i _. below_at q key some-symbols (true→T (all_below q key) below) i } in
       let sent : ℕ → ℕ = λ p. sum_of q (at (map (symbol_of q) (pos r ∷ [])) p) (at key p) in
       let symbol : symbol_of q (pos r) ≡ r = ap (λ (b : Bool). cond b r 0) (lt-ltb r q (omega (arith, cap-room))) in
-      ap (λ (l : List ℕ). at l 0) (signed-taken P m 1 shape (pos r ∷ []) key out refl (one_inside r inside) vec room).1
-      ∙ at-tab 1 sent 0 (omega arith)
-      ∙ residue-mod q (symbol_of q (pos r) + at key 0) some-symbols
-      ∙ ap (λ (x : ℕ). (x + at key 0) % q) symbol
+      let (told, taken) = signed-taken P m 1 shape (pos r ∷ []) key out refl (one_inside r inside) vec room in (
+        ap (λ (l : List ℕ). at l 0) taken
+            ∙ at-tab 1 sent 0 (omega arith)
+            ∙ residue-mod q (symbol_of q (pos r) + at key 0) some-symbols
+            ∙ ap (λ (x : ℕ). (x + at key 0) % q) symbol,
+        told,
+      )
 
   -- one total
-  pub one-shown : (t : ℕ) (out : List ℤ) → t < P.q → length out ≡ 1 → get_or (totals_after P m 1 (t ∷ []) out) 0 (pos 0) ≡ shown_of P.q t
+  pub one-shown : (t : ℕ) (out : List ℤ) → t < P.q → length out ≡ 1
+      → (get_or (totals_after P m 1 (t ∷ []) out) 0 (pos 0) ≡ shown_of P.q t) × (accepted ≡ totals_code P m 1 (t ∷ []) out)
   one-shown t out h room =
-      ap (λ (l : List ℤ). get_or l 0 (pos 0))
-      (symbols-shown P m 1 shape (t ∷ []) out (record { size = refl; small = λ i l. small i l }) room).1
+      let (told, shown) = symbols-shown P m 1 shape (t ∷ []) out (record { size = refl; small = λ i l. small i l }) room in
+      (ap (λ (l : List ℤ). get_or l 0 (pos 0)) shown, told)
     where
       small : (i : ℕ) → i < 1 → at (t ∷ []) i < P.q
       small i l = let e : 0 ≡ i = omega arith in subst (λ (k : ℕ). at (t ∷ []) k < P.q) e h
@@ -91,13 +95,13 @@ module _ (P : Plan) (K : List ℕ) (m : ℕ) (N W : List ℕ) (s : Maskable P K 
   pos-q = some-symbols P m s.fit
 
   -- dealing without a vet refuses nothing
-  pub dealt : (out : List ℕ) → length out ≡ users_of P → unvetted_after P K 1 N out ≡ keys_of P K 1 N
+  pub dealt : (out : List ℕ) → length out ≡ users_of P → (unvetted_after P K 1 N out ≡ keys_of P K 1 N) × (accepted ≡ unvetted_code P K 1 N out)
   dealt out room =
       let told : accepted ≡ unvetted_code P K 1 N out =
       sym
       (simp (eq-eqb (length N) (1 * P.rate) (omega (arith, s.source)), eq-eqb (length out) (users_of P * 1) (omega arith), s.symbols))
       ∙ rest-decides (table_checks P K) (block_checks P 1 N out) tt s.table in
-      accepted-takes (unvetted_code P K 1 N out) (keys_of P K 1 N) out told
+      (accepted-takes (unvetted_code P K 1 N out) (keys_of P K 1 N) out told, told)
 
   pub keys_length : length (keys_of P K 1 N) ≡ users_of P
   keys_length = ap length (sym (keys-are P K 1 N)) ∙ length-keys P.q (users_of P) P.rate 1 K N ∙ omega arith

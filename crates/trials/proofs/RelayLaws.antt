@@ -1,4 +1,5 @@
 -- The frames of a trial: each relay hears everyone of its cluster, and the server every relay.
+use Rattle.std.specs.Prelude.{Result, Ok}
 use Prim.Native.Nat.{ℕ, zero, suc, ◌+◌, ◌-◌, ◌*◌, ◌/◌, ◌%◌, ◌≤◌, ◌<◌}
 use mathlib.Core.Path.{◌≡◌, refl, sym, ap, ap₂, ◌∙◌, subst}
 use mathlib.Core.Bool.{Bool, true, false, cond, ◌&&◌}
@@ -10,12 +11,14 @@ use lib.Arith.{digits_lt, digits_div, digits_mod}
 use lib.Dec.{T, eqb, eqb→eq}
 use lib.ListN.{length, take, drop}
 use borrow.Author.Tests.{eq-eqb, le-leb, eqb-true}
-use Rattle.refusals.specs.Codes.{accepted, first_of}
-use Rattle.refusals.proofs.CodeLaws.{accepted-takes}
+use Rattle.refusals.specs.declared.Code.{Code}
+use Rattle.refusals.specs.declared.Refusal.{Refusal}
+use Rattle.refusals.specs.Codes.{accepted, code_of, is_accepted, first_of}
+use Rattle.refusals.proofs.CodeLaws.{refusal-refuses, accepted-takes}
 use Rattle.lists.specs.Lists.{at, All, tab}
 use Rattle.lists.specs.Sums.{sum_to}
 use Rattle.lists.proofs.Fronts.{length_part, part_at}
-use Rattle.lists.proofs.ListLaws.{at-tab, length-tab}
+use Rattle.lists.proofs.ListLaws.{at-tab}
 use Rattle.lists.proofs.Searches.{T→true, true→T, T-or, or_left, or_right}
 use Rattle.lists.proofs.Sums.{sum-cong}
 use Rattle.residues.specs.Primes.{is_prime, all_below}
@@ -27,9 +30,10 @@ use Rattle.rounds.specs.declared.RelayRound.{RelayRound}
 use Rattle.rounds.specs.Ledger.{Frame, frame, named}
 use Rattle.rounds.specs.declared.Round.{Round}
 use Rattle.rounds.specs.declared.ServerRound.{ServerRound}
-use Rattle.rounds.specs.Rounds.{one_of, open_checks, open_code, opened, open_round, no_round, stepped, run_of, sums_after, server_round, server_run, server_sums}
+use Rattle.rounds.specs.Rounds.{one_of, open_checks, open_code, opened, open_round, no_round, stepped}
+use Rattle.rounds.specs.Rounds.{run_of, sums_after, server_round, server_run, server_give_code, give_code, server_sums}
 use Rattle.rounds.proofs.Runs.{step-clusters, server-run}
-use Rattle.rounds.specs.Relays.{relay_round, nothing, relay_opened, relay_next, heard, relay_run, relay_sums}
+use Rattle.rounds.specs.Relays.{relay_round, nothing, relay_opened, relay_next, heard, relay_run, relay_give_code, relay_sums}
 use Rattle.trials.specs.Drawing.{among, frame_of, run_from, relay_frames, Sent, Relayed}
 use Rattle.trials.proofs.HeardLaws.{Fine, relay-gives, server-gives}
 
@@ -47,6 +51,14 @@ part-below q n b l pos h e =
     (λ i k.
     let j : i < n = omega (arith, length_part n b l h) in
     subst (λ (x : ℕ). x < q) (sym (part_at n b l i j)) (below_at q l pos (true→T (all_below q l) e) (b + i))))
+
+-- nobody is refused where the checks accept
+pub never-refused : (r : Refusal) (c : Code) → code_of r ≡ c → accepted ≡ c → ⊥
+never-refused r c e f = subst (λ (b : Bool). T b) (ap is_accepted (f ∙ sym e) ∙ refusal-refuses r) tt
+
+-- what a call without refusals hands over
+pub handed-over : {A : Type 0} {x y : A} → ◌≡◌ {A = Result A Refusal} (Ok x) (Ok y) → x ≡ y
+handed-over e = cc
 
 -- a round of a good plan opens
 opens : (P : Plan) (known : Bool) → in_bounds P ≡ true → is_prime P.q ≡ true → known ≡ true → accepted ≡ first_of (open_checks P.clusters P.size P.q 1 known)
@@ -132,15 +144,19 @@ module _ (P : Plan) (cluster number : ℕ) (uploads : List ℕ) where
           (sym (eq-eqb (x / P.size + 1) cluster (omega arith)))
           (or_left (eqb (x % P.size + 1) (suc v)) (named (own_frames l) (suc v)) (true→T _ (eq-eqb (x % P.size + 1) (suc v) (omega arith))))
 
+pub relay-opens : (P : Plan) (cluster : ℕ) (uploads order : List ℕ) → 1 ≤ cluster → cluster ≤ P.clusters → Sent P uploads order
+    → accepted ≡ open_code P.clusters P.size P.q 1 (one_of P.clusters cluster)
+relay-opens P cluster uploads order low high s =
+    opens P (one_of P.clusters cluster) s.bounds s.prime (ap₂ ◌&&◌ (le-leb 1 cluster low) (le-leb cluster P.clusters high))
+
 -- after all have sent, the relay gives out the sum of its cluster's uploads
 pub relay-sum-is : (P : Plan) (cluster number : ℕ) (uploads order out : List ℕ) → 1 ≤ cluster → cluster ≤ P.clusters → Sent P uploads order → length out ≡ 1
     → (let R = run_from P cluster number uploads (relay_opened P.clusters P.size P.q 1 cluster number) order in
-    (at (relay_sums R out) 0 ≡ sum_to P.size (λ v. at uploads ((cluster - 1) * P.size + v)) % P.q) × (length (relay_sums R out) ≡ 1))
+    (at (relay_sums R out) 0 ≡ sum_to P.size (λ v. at uploads ((cluster - 1) * P.size + v)) % P.q) × (accepted ≡ relay_give_code R out))
 relay-sum-is P cluster number uploads order out low high s room =
     let b : Bounds P = bounds-known P s.bounds in
     let pos : 0 < P.q = prime-pos (true-prime P.q s.prime) in
-    let known : one_of P.clusters cluster ≡ true = ap₂ ◌&&◌ (le-leb 1 cluster low) (le-leb cluster P.clusters high) in
-    let pass = opens P (one_of P.clusters cluster) s.bounds s.prime known in
+    let pass = relay-opens P cluster uploads order low high s in
     let R₀ : RelayRound = relay_round cluster (opened P.clusters P.size P.q 1 number) nothing in
     let B : ℕ → List ℕ = block_of P cluster number uploads in
     let f : ℕ → ℕ = λ p. sum_to P.size (λ v. at (B (suc v)) p) % P.q in
@@ -159,7 +175,7 @@ relay-sum-is P cluster number uploads order out low high s room =
           ∙ ap (λ (z : ℕ). z % P.q)
           (sum-cong P.size (λ v. at (B (suc v)) 0) (λ v. at uploads ((cluster - 1) * P.size + v))
           (λ v h. part_at 1 ((cluster - 1) * P.size + (suc v - 1)) uploads 0 (omega arith) ∙ ap (at uploads) (omega arith))),
-      ap length sums ∙ length-tab 1 f,
+      sym (ap (λ (X : RelayRound). relay_give_code X out) run ∙ told),
     )
 
 -- ---- the server
@@ -199,13 +215,16 @@ unfolding run_of
 run-clusters senders [] R = refl
 run-clusters senders (f ∷ frames) R = run-clusters senders frames (stepped senders true R f) ∙ step-clusters senders true R f
 
+pub server-opens : (P : Plan) (sums : List ℕ) → Relayed P sums → accepted ≡ open_code P.clusters P.size P.q 1 true
+server-opens P sums s = opens P true s.bounds s.prime refl
+
 -- after all relays have sent, the server gives out the sum of their sums
 pub total-is : (P : Plan) (number : ℕ) (sums out : List ℕ) → Relayed P sums → length out ≡ 1
     → (let R = server_run (server_round (open_round P.clusters P.size P.q 1 true number)) (relay_frames number sums) in
-    (at (server_sums R out) 0 ≡ sum_to P.clusters (at sums) % P.q) × (length (server_sums R out) ≡ 1))
+    (at (server_sums R out) 0 ≡ sum_to P.clusters (at sums) % P.q) × (accepted ≡ server_give_code R out))
 total-is P number sums out s room =
     let pos : 0 < P.q = prime-pos (true-prime P.q s.prime) in
-    let pass = opens P true s.bounds s.prime refl in
+    let pass = server-opens P sums s in
     let D : Round = opened P.clusters P.size P.q 1 number in
     let F : List Frame = relay_frames number sums in
     let B : ℕ → List ℕ = sum_of_relay number P.q sums in
@@ -226,5 +245,6 @@ total-is P number sums out s room =
           ∙ ap (λ (z : ℕ). z % P.q)
           (sum-cong P.clusters (λ v. at (B (suc v)) 0) (at sums)
           (λ v h. part_at 1 (suc v - 1) sums 0 (omega arith) ∙ ap (at sums) (omega arith))),
-      ap length sums-are ∙ length-tab 1 f,
+      sym
+          (ap (λ (X : ServerRound). server_give_code X out) run ∙ ap (λ (n : ℕ). give_code n true (run_of P.clusters true D F) out) clusters-same ∙ told),
     )

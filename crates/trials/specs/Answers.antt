@@ -1,11 +1,7 @@
 -- What a round on paper answers: a refusal, or what Trials says of the round.
 use Rattle.std.specs.Prelude.{ℕ, List, pos}
-use Rattle.refusals.specs.declared.Code.{Code}
-use Rattle.refusals.specs.Codes.{accepted, code_of}
 use Rattle.plans.specs.declared.Plan.{Plan}
 use Rattle.trials.specs.declared.Trial.{Trial}
-use Rattle.trials.specs.declared.Tried.{Tried}
-use Rattle.trials.specs.declared.Tried.TheVariants.{Made, Refused}
 use Rattle.trials.specs.Trials.{last_sender, first_sum, true_sum, shown_total, state_after}
 
 abbrev pub trial_of : Plan → List ℕ → ℕ → ℕ → Trial
@@ -21,11 +17,3 @@ trial_of P K m s =
 -- what a refusal tells of the round
 abbrev pub no_trial : Trial
 no_trial = record { last = 0; first = 0; sum = 0; shown = pos 0; state = 0 }
-
-abbrev pub tried_code : Tried → Code
-tried_code (Made trial) = accepted
-tried_code (Refused r) = code_of r
-
-abbrev pub tried_trial : Tried → Trial
-tried_trial (Made trial) = trial
-tried_trial (Refused r) = no_trial

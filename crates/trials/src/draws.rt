@@ -14,11 +14,9 @@ pub(crate) fn draw(modulus: u32, state: u32, out: &mut [u32]) -> u32
     ensures out { out.new ≡ tab (length out.old) (λ k. value_at state k % modulus) }
 {
     let mut s = state;
-    let mut k = 0;
-    while k < out.len() {
+    for value in out.iter_mut() {
         s = next_state(s);
-        out[k] = value_of(s) % modulus;
-        k += 1;
+        *value = value_of(s) % modulus;
     }
     s
 }
@@ -27,10 +25,8 @@ pub(crate) fn draw(modulus: u32, state: u32, out: &mut [u32]) -> u32
 pub(crate) fn fill_order(order: &mut [usize])
     ensures { order.new ≡ tab (length order.old) (λ i. i) }
 {
-    let mut i = 0;
-    while i < order.len() {
-        order[i] = i;
-        i += 1;
+    for (i, user) in order.iter_mut().enumerate() {
+        *user = i;
     }
 }
 
@@ -40,12 +36,10 @@ fn bring_forward(owing: &mut [usize], k: usize)
     ensures { owing.new ≡ at owing.old k ∷ without k owing.old }
 {
     let mut held = owing[k];
-    let mut i = 0;
-    while i <= k {
+    for i in 0..k + 1 {
         let next = owing[i];
         owing[i] = held;
         held = next;
-        i += 1;
     }
 }
 
@@ -55,13 +49,11 @@ pub(crate) fn draw_senders(state: u32, order: &mut [usize]) -> u32
     ensures order { order.new ≡ senders_from state (length order.old) order.old }
 {
     let mut s = state;
-    let mut j = 0;
-    while j < order.len() {
+    for j in 0..order.len() {
         s = next_state(s);
         let left = order.len() - j;
         let k = value_of(s) as usize % left;
         bring_forward(&mut order[j..], k);
-        j += 1;
     }
     s
 }

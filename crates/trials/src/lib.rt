@@ -9,11 +9,10 @@ mod uploads;
 
 use arithmetic::Symbol;
 pub use generator::{next_state, value_of};
-use refusals::Refusal;
 pub use trials::try_round;
 
 // What is told of a round: the last sender's index, relay 1's sum, the true sum of the readings, the shown total, and the generator's state after it.
-#[derive(Clone, Copy)]
+#[derive(Clone, Copy, Debug, PartialEq, Eq)]
 pub struct Trial {
     pub last: usize,
     pub first: Symbol,
@@ -22,15 +21,8 @@ pub struct Trial {
     pub state: u32,
 }
 
-// The answer of a round on paper.
-#[derive(Clone, Copy)]
-pub enum Tried {
-    Made(Trial),
-    Refused(Refusal),
-}
-
 // What the relays and the server make of a round.
-#[derive(Clone, Copy)]
+#[derive(Clone, Copy, Debug, PartialEq, Eq)]
 pub struct Settled {
     pub first: Symbol,
     pub shown: i32,

@@ -1,29 +1,27 @@
 // One round on paper.
-ghost use Rattle.std.specs.Prelude.{◌≡◌, ◌+◌, ◌<◌, length};
-ghost use Rattle.refusals.specs.Codes.{accepted, first_of, if_accepted, verdict_code};
+ghost use Rattle.std.specs.Prelude.{◌≡◌, ◌+◌, ◌<◌, length, Ok};
+ghost use Rattle.std.specs.Result.{result_unwrap_or};
+ghost use Rattle.refusals.specs.Codes.{accepted, first_of, if_accepted, code_of_result};
 ghost use Rattle.lists.specs.Lists.{tab};
 ghost use Rattle.trials.specs.Generator.{stepped_by};
 ghost use Rattle.trials.specs.Trials.{trial_checks};
-ghost use Rattle.trials.specs.Answers.{trial_of, no_trial, tried_code, tried_trial};
+ghost use Rattle.trials.specs.Answers.{trial_of, no_trial};
 ghost use Rattle.trials.specs.Drawing.{drawn_of, senders_from, Drawn, settled_of};
 
 use crate::draws::{draw, draw_senders, fill_order};
 use crate::sums::{BLOCK, relay_sums, total};
 use crate::uploads::{mask, show, true_sum};
-use crate::{Settled, Trial, Tried};
+use crate::{Settled, Trial};
 use arithmetic::Symbol;
 use plans::{Plan, check_plan};
-use refusals::Verdict;
+use refusals::Refusal;
 use signed::show_totals;
 
 // 1, 4, 2, 3 and 16. Showing a total judges the cap as every signed call does, and 0 is a symbol.
-fn check_trial(plan: Plan, table: &[Symbol], cap: u32) -> Verdict
-    ensures { verdict_code result ≡ first_of (trial_checks plan table.now cap) }
+fn check_trial(plan: Plan, table: &[Symbol], cap: u32) -> Result<(), Refusal>
+    ensures { code_of_result result ≡ first_of (trial_checks plan table.now cap) }
 {
-    let checked = check_plan(plan, table);
-    if !checked.is_accepted() {
-        return checked;
-    }
+    check_plan(plan, table)?;
     let totals = [0 as Symbol; BLOCK];
     let mut shown = [0i32; BLOCK];
     show_totals(plan, cap, BLOCK, &totals, &mut shown)
@@ -63,14 +61,14 @@ fn settle(
     source: &[Symbol],
     readings: &[Symbol],
     order: &[usize],
-) -> Settled
+) -> Result<Settled, Refusal>
     requires { Drawn plan table.now cap source.now readings.now order.now }
-    ensures { result ≡ settled_of plan table.now source.now readings.now }
+    ensures { result ≡ Ok (settled_of plan table.now source.now readings.now) }
 {
     let users = readings.len();
     let clusters = plan.clusters;
     let mut uploads = [0 as Symbol; Plan::MAX_USERS];
-    mask(plan, table, cap, source, readings, &mut uploads[..users]);
+    mask(plan, table, cap, source, readings, &mut uploads[..users])?;
     let mut sums = [0 as Symbol; Plan::MAX_CLUSTERS];
     relay_sums(
         plan,
@@ -78,18 +76,25 @@ fn settle(
         &uploads[..users],
         order,
         &mut sums[..clusters],
-    );
-    let sum = total(plan, number, &sums[..clusters]);
-    Settled {
+    )?;
+    let sum = total(plan, number, &sums[..clusters])?;
+    let shown = show(plan, cap, sum)?;
+    Ok(Settled {
         first: sums[0],
-        shown: show(plan, cap, sum),
-    }
+        shown,
+    })
 }
 
 // The round of a plan and a cap that are good.
-fn make_trial(plan: Plan, table: &[Symbol], cap: u32, number: u32, state: u32) -> Trial
+fn make_trial(
+    plan: Plan,
+    table: &[Symbol],
+    cap: u32,
+    number: u32,
+    state: u32,
+) -> Result<Trial, Refusal>
     requires { accepted ≡ first_of (trial_checks plan table.now cap) }
-    ensures { result ≡ trial_of plan table.now cap state }
+    ensures { result ≡ Ok (trial_of plan table.now cap state) }
 {
     let rate = plan.rate;
     let users = plan.clusters * plan.size;
@@ -112,24 +117,28 @@ fn make_trial(plan: Plan, table: &[Symbol], cap: u32, number: u32, state: u32) -
         &source[..rate],
         &readings[..users],
         &order[..users],
-    );
-    Trial {
+    )?;
+    Ok(Trial {
         last: order[users - 1],
         first: settled.first,
         sum: true_sum(&readings[..users]),
         shown: settled.shown,
         state: after,
-    }
+    })
 }
 
 // One round, whatever plan, table, cap and state it is given. Its number is that of its frames.
-pub fn try_round(plan: Plan, table: &[Symbol], cap: u32, number: u32, state: u32) -> Tried
-    ensures code { tried_code result ≡ first_of (trial_checks plan table.now cap) }
-    ensures trial { tried_trial result
+pub fn try_round(
+    plan: Plan,
+    table: &[Symbol],
+    cap: u32,
+    number: u32,
+    state: u32,
+) -> Result<Trial, Refusal>
+    ensures code { code_of_result result ≡ first_of (trial_checks plan table.now cap) }
+    ensures trial { result_unwrap_or result no_trial
         ≡ if_accepted (first_of (trial_checks plan table.now cap)) (trial_of plan table.now cap state) no_trial }
 {
-    if let Verdict::Refused(refusal) = check_trial(plan, table, cap) {
-        return Tried::Refused(refusal);
-    }
-    Tried::Made(make_trial(plan, table, cap, number, state))
+    check_trial(plan, table, cap)?;
+    make_trial(plan, table, cap, number, state)
 }

@@ -55,8 +55,7 @@ pub extern "C" fn kortyghai_signed_upload(
     ensures out { out.new
         ≡ signed_upload_after (plan_of plan.now) cap length readings.now key.now out.old }
 {
-    let pool = plan_of(*plan);
-    pack_verdict(signed::signed_upload(pool, cap, length, readings, key, out))
+    pack_verdict(signed::signed_upload(plan_of(*plan), cap, length, readings, key, out))
 }
 
 // The signed readings of an upload, for whoever has its key.
@@ -74,6 +73,5 @@ pub extern "C" fn kortyghai_signed_unmask(
     ensures out { out.new
         ≡ signed_unmask_after (plan_of plan.now) cap length upload.now key.now out.old }
 {
-    let pool = plan_of(*plan);
-    pack_verdict(signed::signed_unmask(pool, cap, length, upload, key, out))
+    pack_verdict(signed::signed_unmask(plan_of(*plan), cap, length, upload, key, out))
 }

@@ -9,7 +9,5 @@ fn main(rt: HostRuntime) -> io::Result<()> {
     let mut buffer = [0u8; 65536];
     let n = read_full(&mut rt.reader(), &mut buffer).bytes;
     let line = reports::vet_line(&buffer[..n]);
-    let text = line.text;
-    let end = line.length;
-    rt.write_all(&text[..end])
+    rt.write_all(&line.text[..line.length])
 }

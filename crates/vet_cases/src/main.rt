@@ -13,9 +13,7 @@ const LONGEST_NAME: usize = 4096;
 
 fn write_line(rt: &impl Print, bytes: &[u8]) -> io::Result<()> {
     let line = reports::vet_line(bytes);
-    let text = line.text;
-    let end = line.length;
-    rt.write_all(&text[..end])
+    rt.write_all(&line.text[..line.length])
 }
 
 fn vet_file<F: Read>(rt: &impl Print, file: &mut F) -> io::Result<()> {

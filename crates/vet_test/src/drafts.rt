@@ -2,7 +2,7 @@
 use crate::numbers::{OLD, WIDE, after, before, from_one, put_number, put_word};
 use testing::{PRIMES, draw, prime, product, put_byte, quotient, residue, state};
 
-#[derive(Clone, Copy)]
+#[derive(Clone, Copy, Debug, PartialEq, Eq)]
 pub struct Draft {
     pub clusters: usize,
     pub size: usize,
@@ -18,9 +18,10 @@ const NARROW_PRIMES: usize = 7;
 // One of the first few primes, or, as often, a wide one.
 fn modulus(seed: usize, few: usize) -> usize {
     if draw(state(seed, 8), 2) == 0 {
-        return prime(draw(state(seed, 6), few));
+        prime(draw(state(seed, 6), few))
+    } else {
+        prime(NARROW_PRIMES + draw(state(seed, 6), PRIMES - NARROW_PRIMES) % PRIMES)
     }
-    prime(NARROW_PRIMES + draw(state(seed, 6), PRIMES - NARROW_PRIMES) % PRIMES)
 }
 
 fn least(a: usize, b: usize) -> usize {
@@ -45,9 +46,10 @@ fn tiny(seed: usize) -> Draft {
 // Most often a low one, which keeps the walk short; any in one plan of 4, so that some first leaks are at coalitions with large numbers.
 fn large_limit(seed: usize, users: usize) -> usize {
     if draw(state(seed, 7), 4) == 0 {
-        return draw(state(seed, 3), after(users, 1));
+        draw(state(seed, 3), after(users, 1))
+    } else {
+        least(draw(state(seed, 3), 4), users)
     }
-    least(draw(state(seed, 3), 4), users)
 }
 
 // Any counts within the bounds.
@@ -112,9 +114,10 @@ fn sum_above(d: Draft, column: usize) -> usize {
 // The last row is minus the sum of the others.
 pub fn symbol(d: Draft, n: usize) -> usize {
     if quotient(n, d.rate) == before(users(d), 1) {
-        return residue(before(d.q, sum_above(d, residue(n, d.rate))), d.q);
+        residue(before(d.q, sum_above(d, residue(n, d.rate))), d.q)
+    } else {
+        free_symbol(d, n)
     }
-    free_symbol(d, n)
 }
 
 fn write_head(d: Draft, bytes: &mut [u8], first: usize) {

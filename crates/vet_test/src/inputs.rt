@@ -2,7 +2,7 @@
 // An input is made of its number alone, so that each can be looked at by itself.
 use crate::drafts::{Draft, drawn, head, record_size, symbols, width, write};
 use crate::numbers::{after, before, from_one, put_number, put_word};
-use testing::{byte_at, draw, fill_bytes, product, put_byte, residue, state};
+use testing::{byte_at, clip, draw, fill_bytes, product, put_byte, residue, state};
 
 // The bytes of the buffer, and the place from which it is filled anew for each input; before that it is 0.
 pub const BUFFER: usize = 65536;
@@ -10,7 +10,7 @@ pub const BUFFER: usize = 65536;
 const FILLED: usize = 64400;
 
 // The part of the buffer that is the input, and that which was written as a record.
-#[derive(Clone, Copy)]
+#[derive(Clone, Copy, Debug, PartialEq, Eq)]
 pub struct Input {
     pub start: usize,
     pub end: usize,
@@ -28,9 +28,10 @@ fn fill(bytes: &mut [u8], seed: usize) {
 // Some bytes after the record in one input of 32.
 fn bytes_after(seed: usize) -> usize {
     if draw(state(seed, 300), 32) == 0 {
-        return draw(state(seed, 301), 5);
+        draw(state(seed, 301), 5)
+    } else {
+        0
     }
-    0
 }
 
 // The record, and up to 31 bytes before it.
@@ -76,44 +77,25 @@ fn distance(i: Input, x: usize) -> usize {
 }
 
 // A count about the bounds.
+static COUNT: [usize; 10] = [0, 1, 2, 3, 7, 8, 9, 16, 17, 255];
+
 fn count(x: usize) -> usize {
-    match draw(x, 10) {
-        0 => 0,
-        1 => 1,
-        2 => 2,
-        3 => 3,
-        4 => 7,
-        5 => 8,
-        6 => 9,
-        7 => 16,
-        8 => 17,
-        _ => 255,
-    }
+    COUNT[clip(draw(x, 10), 9)]
 }
 
 // Primes and others, squares of primes among them, of both widths.
+static MODULUS: [usize; 19] = [
+    0, 1, 2, 4, 9, 11, 65025, 63001, 65520, 65521, 65535, 65536, 65537, 131071, 4293001441,
+    4294967279, 4294967291, 4294967293, 4294967295,
+];
+
+// One of those, or seldom any below 300.
 fn modulus(x: usize) -> usize {
-    match draw(x, 20) {
-        0 => 0,
-        1 => 1,
-        2 => 2,
-        3 => 4,
-        4 => 9,
-        5 => 11,
-        6 => 65025,
-        7 => 63001,
-        8 => 65520,
-        9 => 65521,
-        10 => 65535,
-        11 => 65536,
-        12 => 65537,
-        13 => 131071,
-        14 => 4293001441,
-        15 => 4294967279,
-        16 => 4294967291,
-        17 => 4294967293,
-        18 => 4294967295,
-        _ => draw(x / 16, 300),
+    let n = draw(x, 20);
+    if n < 19 {
+        MODULUS[n]
+    } else {
+        draw(x / 16, 300)
     }
 }
 
@@ -179,27 +161,65 @@ fn change_symbol(d: Draft, bytes: &mut [u8], i: Input, x: usize) {
     put_number(bytes, place, width(d), number(d.q, state(x, 1)));
 }
 
-// Changes bytes of the record.
-fn change(d: Draft, bytes: &mut [u8], i: Input, kind: usize, x: usize) {
-    match kind {
-        0 => change_byte(d, bytes, i, x),
-        1 => shift_byte(d, bytes, i, x),
-        2 => change_distance(bytes, i, x),
-        3 => change_mark(bytes, i, x),
-        4 => change_count(bytes, i, x),
-        5 => change_modulus(d, bytes, i, x),
-        6 => turn_mark(bytes, i),
-        _ => change_symbol(d, bytes, i, x),
+// What is changed of the record.
+#[derive(Clone, Copy, Debug, PartialEq, Eq)]
+enum Change {
+    AnyByte,
+    ByteByOne,
+    Distance,
+    Mark,
+    Count,
+    Modulus,
+    OtherMark,
+    Symbol,
+}
+
+static CHANGES: [Change; 8] = [
+    Change::AnyByte,
+    Change::ByteByOne,
+    Change::Distance,
+    Change::Mark,
+    Change::Count,
+    Change::Modulus,
+    Change::OtherMark,
+    Change::Symbol,
+];
+
+fn change_record(d: Draft, bytes: &mut [u8], i: Input, what: Change, x: usize) {
+    match what {
+        Change::AnyByte => change_byte(d, bytes, i, x),
+        Change::ByteByOne => shift_byte(d, bytes, i, x),
+        Change::Distance => change_distance(bytes, i, x),
+        Change::Mark => change_mark(bytes, i, x),
+        Change::Count => change_count(bytes, i, x),
+        Change::Modulus => change_modulus(d, bytes, i, x),
+        Change::OtherMark => turn_mark(bytes, i),
+        Change::Symbol => change_symbol(d, bytes, i, x),
     }
 }
 
-// Other ends: cut in front, cut behind, one byte too long, or just not too long.
-fn cut(i: Input, kind: usize, x: usize) -> Input {
-    match kind {
-        0 => between(after(i.first, from_one(x, 8)), i.end, i),
-        1 => between(i.start, before(i.end, from_one(x, 8)), i),
-        2 => between(0, BUFFER, i),
-        _ => between(1, BUFFER, i),
+// Other ends: the last two are one byte too long, and just not too long.
+#[derive(Clone, Copy, Debug, PartialEq, Eq)]
+enum Ends {
+    CutInFront,
+    CutBehind,
+    TooLong,
+    Longest,
+}
+
+static OTHER_ENDS: [Ends; 4] = [
+    Ends::CutInFront,
+    Ends::CutBehind,
+    Ends::TooLong,
+    Ends::Longest,
+];
+
+fn cut(i: Input, ends: Ends, x: usize) -> Input {
+    match ends {
+        Ends::CutInFront => between(after(i.first, from_one(x, 8)), i.end, i),
+        Ends::CutBehind => between(i.start, before(i.end, from_one(x, 8)), i),
+        Ends::TooLong => between(0, BUFFER, i),
+        Ends::Longest => between(1, BUFFER, i),
     }
 }
 
@@ -221,19 +241,18 @@ fn unmake(bytes: &mut [u8], i: Input, x: usize) -> Input {
 
 // Nothing in 8 of 32 turns.
 fn damage(d: Draft, bytes: &mut [u8], i: Input, seed: usize) -> Input {
-    let kind = draw(state(seed, 5), 32);
+    let n = draw(state(seed, 5), 32);
     let x = state(seed, 6);
-    if kind < 8 {
-        return i;
+    if n < 8 {
+        i
+    } else if n < 27 {
+        change_record(d, bytes, i, CHANGES[n % 8], x);
+        i
+    } else if n < 28 {
+        unmake(bytes, i, x)
+    } else {
+        cut(i, OTHER_ENDS[n % 4], x)
     }
-    if kind < 27 {
-        change(d, bytes, i, kind % 8, x);
-        return i;
-    }
-    if kind < 28 {
-        return unmake(bytes, i, x);
-    }
-    cut(i, kind % 4, x)
 }
 
 // Every other input has no second damage.
@@ -245,7 +264,8 @@ pub fn make(case: usize, bytes: &mut [u8]) -> Input {
     write(d, bytes, i.last);
     let once = damage(d, bytes, i, state(seed, 400));
     if case % 2 == 0 {
-        return once;
+        once
+    } else {
+        damage(d, bytes, once, state(seed, 401))
     }
-    damage(d, bytes, once, state(seed, 401))
 }

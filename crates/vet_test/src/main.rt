@@ -18,8 +18,8 @@ const INPUTS: usize = 20000;
 fn compared(t: Tally, bytes: &[u8]) -> Tally {
     let expected = second::verdict(bytes);
     let line = reports::vet_line(bytes);
-    let code = refusals::verdict_code(reports::vet_record(bytes));
-    let same = text::says(line, expected) && text::same_code(code, expected);
+    let code = refusals::code_of_result(&reports::vet_record(bytes));
+    let same = text::says(line, expected) && code == expected;
     t.count_wide(second::is_wide(bytes))
         .count(expected.number, same)
 }
@@ -28,13 +28,11 @@ fn compared(t: Tally, bytes: &[u8]) -> Tally {
 fn compared_part(t: Tally, buffer: &[u8], i: Input) -> Tally {
     let start = i.start;
     let end = i.end;
-    if start > end {
-        return t.count(99, false);
+    if start <= end && end <= buffer.len() {
+        compared(t, &buffer[start..end])
+    } else {
+        t.count(99, false)
     }
-    if end > buffer.len() {
-        return t.count(99, false);
-    }
-    compared(t, &buffer[start..end])
 }
 
 fn compared_case(t: Tally, buffer: &mut [u8], case: usize) -> Tally {

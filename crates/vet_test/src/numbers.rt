@@ -44,7 +44,8 @@ pub fn put_number(bytes: &mut [u8], i: usize, width: usize, n: usize) {
 pub fn number_at(bytes: &[u8], i: usize, width: usize) -> usize {
     let low = word_at(bytes, i);
     if width == WIDE {
-        return joined(low, word_at(bytes, after(i, 2)));
+        joined(low, word_at(bytes, after(i, 2)))
+    } else {
+        low
     }
-    low
 }

@@ -9,7 +9,7 @@ use refusals::Code;
 use testing::{byte_at, is_prime, narrow, narrow16, product, put, residue, word_at};
 
 // What the record says, and the place of its first symbol.
-#[derive(Clone, Copy)]
+#[derive(Clone, Copy, Debug, PartialEq, Eq)]
 struct Head {
     clusters: usize,
     size: usize,
@@ -54,10 +54,7 @@ fn distance(bytes: &[u8]) -> usize {
         return 0;
     }
     let d = trailer % 65536;
-    if n < d {
-        return 0;
-    }
-    if d < after(8, w) { 0 } else { d }
+    if n < d || d < after(8, w) { 0 } else { d }
 }
 
 fn read_head(bytes: &[u8], start: usize) -> Head {
@@ -84,10 +81,7 @@ fn symbols(h: Head) -> usize {
 fn outside(low: usize, n: usize, high: usize) -> usize
     ensures { result ≤ 1 }
 {
-    if n < low {
-        return 1;
-    }
-    if n > high { 1 } else { 0 }
+    if n < low || n > high { 1 } else { 0 }
 }
 
 // How many bounds are broken.
@@ -127,12 +121,9 @@ fn column(bytes: &[u8], h: Head, k: usize) -> usize {
 // The first column, from 1, whose sum is not a multiple of q; found from the last column back, and 0 where there is none.
 fn first_column(bytes: &[u8], h: Head) -> usize {
     let mut first: usize = 0;
-    let mut k = h.rate;
-    while k > 0 {
-        let number = k;
-        k -= 1;
+    for k in (0..h.rate).rev() {
         if residue(column(bytes, h, k), h.q) != 0 {
-            first = number;
+            first = after(k, 1);
         }
     }
     first
@@ -156,24 +147,26 @@ fn plan(h: Head) -> Plan {
 
 // Other numbers than 0 and 7 are impossible here. 99 is no number of a refusal, so that such an answer shows.
 fn leak_only(code: Code) -> Code {
-    if code.number == 0 {
-        return code;
+    if code.number == 0 || code.number == 7 {
+        code
+    } else {
+        plain(99)
     }
-    if code.number == 7 { code } else { plain(99) }
 }
 
 fn vet_table(bytes: &[u8], h: Head, table: &mut [Symbol]) -> Code {
     copy(bytes, h, table);
-    leak_only(refusals::verdict_code(vetting::vet(plan(h), table)))
+    leak_only(refusals::code_of_result(&vetting::vet(plan(h), table)))
 }
 
 fn leak(bytes: &[u8], h: Head) -> Code {
     let n = symbols(h);
     let mut table = [0 as Symbol; 256];
     if n > 256 {
-        return plain(99);
+        plain(99)
+    } else {
+        vet_table(bytes, h, &mut table[..n])
     }
-    vet_table(bytes, h, &mut table[..n])
 }
 
 // 3, 6 and 7.
@@ -183,13 +176,14 @@ fn verdict_on_table(bytes: &[u8], h: Head) -> Code {
     }
     let column = first_column(bytes, h);
     if column != 0 {
-        return Code {
+        Code {
             number: 6,
             first: narrow16(column),
             second: 0,
-        };
+        }
+    } else {
+        leak(bytes, h)
     }
-    leak(bytes, h)
 }
 
 // The length of the input, then 5, 1, 4, 2 and the table.
@@ -209,7 +203,8 @@ pub fn verdict(bytes: &[u8]) -> Code {
         return plain(4);
     }
     if !is_prime(h.q) || (h.width == WIDE && h.q / 65536 == 0) {
-        return plain(2);
+        plain(2)
+    } else {
+        verdict_on_table(bytes, h)
     }
-    verdict_on_table(bytes, h)
 }

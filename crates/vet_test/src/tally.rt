@@ -2,7 +2,7 @@
 use std::io;
 use std::num::wrapping_add_u64;
 
-#[derive(Clone, Copy)]
+#[derive(Clone, Copy, Debug, PartialEq, Eq)]
 pub struct Tally {
     inputs: u64,
     wide: u64,

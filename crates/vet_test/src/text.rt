@@ -3,7 +3,7 @@ use refusals::Code;
 use texts::Line;
 
 // As many bytes as a line has places, 0 past the end.
-#[derive(Clone, Copy)]
+#[derive(Clone, Copy, Debug, PartialEq, Eq)]
 struct Text {
     bytes: [u8; Line::PLACES],
     length: usize,
@@ -22,13 +22,11 @@ impl Text {
 
     // The digit of n that counts a power of ten, which is left out where n is smaller.
     fn put_digit(self, n: u16, power: u16) -> Text {
-        if power == 0 {
-            return self;
+        if power == 0 || n < power {
+            self
+        } else {
+            self.put(48 + (n / power % 10) as u8)
         }
-        if n < power {
-            return self;
-        }
-        self.put(48 + (n / power % 10) as u8)
     }
 
     // A number and the byte after it. The last digit is written always, for 0 too.
@@ -65,20 +63,7 @@ fn same_bytes(a: &[u8; Line::PLACES], b: &[u8; Line::PLACES]) -> bool {
 // All places are compared, those past the end too.
 pub fn says(line: Line, code: Code) -> bool {
     let text = written(code);
-    if line.length != text.length {
-        return false;
-    }
     let a = line.text;
     let b = text.bytes;
-    same_bytes(&a, &b)
-}
-
-pub fn same_code(a: Code, b: Code) -> bool {
-    if a.number != b.number {
-        return false;
-    }
-    if a.first != b.first {
-        return false;
-    }
-    a.second == b.second
+    line.length == text.length && same_bytes(&a, &b)
 }

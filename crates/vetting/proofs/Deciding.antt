@@ -1,4 +1,5 @@
 -- The walk's test decides leaking: so the first pair that it finds is the first that leaks.
+use Rattle.std.specs.Prelude.{Option, Some, None}
 use mathlib.Core.Path.{◌≡◌, refl, sym, ap, ap₂, ◌∙◌, subst}
 use mathlib.Core.Logic.Dec
 use mathlib.Core.Logic.{◌↔◌}
@@ -27,8 +28,6 @@ use Rattle.secrecy.proofs.RankCondition.{outside, tested, row, summed_row, coali
 use Rattle.secrecy.proofs.PairLeaks.{leaks-iff, pair-iff, set-leaks-iff, set-iff}
 use Rattle.plans.specs.declared.Plan.{Plan}
 use Rattle.vetting.specs.declared.Pair.{Pair}
-use Rattle.vetting.specs.declared.Found.{Found}
-use Rattle.vetting.specs.declared.Found.TheVariants.{At, Nothing}
 use Rattle.plans.specs.Plans.{users_of, in_bounds}
 use Rattle.vetting.specs.Pools.{pool_of}
 use Rattle.vetting.specs.Walk.{observers, pairs_with, pairs, InWalk}
@@ -46,17 +45,17 @@ use Rattle.vetting.proofs.WatchLaws.{server-watches, relay-watches, joint-watche
 use Rattle.vetting.proofs.BaseRows.{base-row, base_sum, base-table}
 
 -- a walk with the test of some checks finds what the order of these checks names
-first_found : (tell : Found → Code) → tell Nothing ≡ accepted → (check : Pair → Bool × Code) → ((p : Pair) → tell (At p) ≡ (check p).1)
+first_found : (tell : Option Pair → Code) → tell None ≡ accepted → (check : Pair → Bool × Code) → ((p : Pair) → tell (Some p) ≡ (check p).1)
     → (f : ℕ → ℕ → Bool) (l : List Pair) → All (λ p. f p.coalition p.observer ≡ (check p).0) l
     → (n : ℕ) → tell (first_hit f n l).found ≡ first_of (map check l)
 unfolding first_hit
 first_found tell none check at f [] h n = none
 first_found tell none check at f (p ∷ l) h n =
-    ap (λ (t : Bool). tell (cond t (walk (At p) (n + 1)) (first_hit f (n + 1) l)).found) h.0
+    ap (λ (t : Bool). tell (cond t (walk (Some p) (n + 1)) (first_hit f (n + 1) l)).found) h.0
     ∙ go (check p).0 (first_found tell none check at f l h.1 (n + 1))
   where
     go : (t : Bool) → tell (first_hit f (n + 1) l).found ≡ first_of (map check l)
-        → tell (cond t (walk (At p) (n + 1)) (first_hit f (n + 1) l)).found ≡ cond t (check p).1 (first_of (map check l))
+        → tell (cond t (walk (Some p) (n + 1)) (first_hit f (n + 1) l)).found ≡ cond t (check p).1 (first_of (map check l))
     go true ih = at p
     go false ih = ih
 
@@ -67,13 +66,13 @@ first-place : (P : Plan) (K : List ℕ) (f : ℕ → ℕ → Bool) (l : List Pai
 unfolding first_hit place_in
 first-place P K f [] h n = sym (add-zero n)
 first-place P K f (p ∷ l) h n =
-    ap (λ (t : Bool). (cond t (walk (At p) (n + 1)) (first_hit f (n + 1) l)).looked) h.0
+    ap (λ (t : Bool). (cond t (walk (Some p) (n + 1)) (first_hit f (n + 1) l)).looked) h.0
     ∙ go (leaks (pool_of P K) p.coalition p.observer) (first-place P K f l h.1 (n + 1))
   where
     rest : ℕ
     rest = place_in (λ p. leaks (pool_of P K) p.coalition p.observer) l
 
-    go : (t : Bool) → (first_hit f (n + 1) l).looked ≡ n + 1 + rest → (cond t (walk (At p) (n + 1)) (first_hit f (n + 1) l)).looked ≡ n + cond t 1 (suc rest)
+    go : (t : Bool) → (first_hit f (n + 1) l).looked ≡ n + 1 + rest → (cond t (walk (Some p) (n + 1)) (first_hit f (n + 1) l)).looked ≡ n + cond t 1 (suc rest)
     go true ih = refl
     go false ih = ih ∙ omega arith
 

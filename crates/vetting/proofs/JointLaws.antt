@@ -22,13 +22,13 @@ use Rattle.secrecy.specs.Leaks.{leaks, joint_leaks, JointLeak}
 use Rattle.secrecy.proofs.PairLeaks.{set-leaks-iff}
 use Rattle.plans.specs.declared.Plan.{Plan}
 use Rattle.plans.specs.Plans.{users_of, table_checks}
-use Rattle.vetting.specs.declared.Joint.{Joint}
-use Rattle.vetting.specs.declared.Joint.TheVariants.{None, Relays}
+use Rattle.std.specs.Prelude.{Option, Some, None}
+use Rattle.vetting.specs.declared.RelayPair.{RelayPair}
 use Rattle.vetting.specs.Pools.{pool_of}
 use Rattle.vetting.specs.Walk.{pairs}
 use Rattle.vetting.specs.Vet.{column_check, column_checks, leak_check, other_checks, vet_checks, vet_code}
 use Rattle.vetting.specs.Length.{place_in, looked_at}
-use Rattle.vetting.specs.Joint.{coalitions, relays_fit, relay_checks, joint_check, joint_checks, checks_before, joint_code, joint_looked}
+use Rattle.vetting.specs.Joint.{relay_pair, coalitions, relays_fit, relay_checks, joint_check, joint_checks, checks_before, joint_code, joint_looked}
 use Rattle.vetting.proofs.PairLists.{within}
 use Rattle.vetting.proofs.ExactSecrecy.{Checked, checked, other-numbered, accepted-checked, walk-decides}
 
@@ -55,9 +55,9 @@ module _ (n : ℕ) where
 -- ---- the check of the relays
 
 -- it refuses with a number
-pub relays-numbered : (P : Plan) (J : Joint) → T (numbered (relay_checks P J))
+pub relays-numbered : (P : Plan) (J : Option RelayPair) → T (numbered (relay_checks P J))
 relays-numbered P None = tt
-relays-numbered P (Relays a b) = tt
+relays-numbered P (Some r) = tt
 
 -- relays that fit: the lower first, and both in the plan
 pub relays-known : (P : Plan) (a b : ℕ) → relays_fit P a b ≡ true → (1 ≤ a) × (a < b) × (b ≤ P.clusters)
@@ -151,14 +151,14 @@ module _ (P : Plan) (K : List ℕ) where
       other-first 19 refl (vet_checks P K)
       (refl, (refl, (refl, (refl, all_append (OtherNumber 19) (column_checks P K) leak_checks (columns-other 19 refl) (leaks-other 19 refl)))))
 
-  before-other : (J : Joint) → eqb (first_of (checks_before P K J)).number 19 ≡ false
+  before-other : (J : Option RelayPair) → eqb (first_of (checks_before P K J)).number 19 ≡ false
   before-other None = other-first 19 refl (other_checks P K) (refl, (refl, (refl, (refl, columns-other 19 refl))))
-  before-other (Relays a b) = other-first 19 refl (checks_before P K (Relays a b)) (refl, (refl, (refl, (refl, (refl, columns-other 19 refl)))))
+  before-other (Some r) = other-first 19 refl (checks_before P K (Some r)) (refl, (refl, (refl, (refl, (refl, columns-other 19 refl)))))
 
   -- and no code but that of the relays' own check has the number 8
-  pub none-eight : (a b : ℕ) → eqb (first_of (vet_checks P K ++ joint_checks P K (Relays a b))).number 8 ≡ false
+  pub none-eight : (a b : ℕ) → eqb (first_of (vet_checks P K ++ joint_checks P K (relay_pair a b))).number 8 ≡ false
   none-eight a b =
-      let joint : List (Bool × Code) = joint_checks P K (Relays a b) in
+      let joint : List (Bool × Code) = joint_checks P K (relay_pair a b) in
       let last : All (OtherNumber 8) joint = others-map 8 (joint_check P K a b) (λ g. refl) (coalitions (users_of P) P.limit) in
       other-first 8 refl (vet_checks P K ++ joint) (
         refl,
@@ -175,9 +175,9 @@ module _ (P : Plan) (K : List ℕ) where
         ),
       )
 
-  before-numbered : (J : Joint) → T (numbered (checks_before P K J))
+  before-numbered : (J : Option RelayPair) → T (numbered (checks_before P K J))
   before-numbered None = other-numbered P K
-  before-numbered (Relays a b) = other-numbered P K
+  before-numbered (Some r) = other-numbered P K
 
   same_code : joint_code P K None ≡ vet_code P K
   same_code = ap (λ (l : List (Bool × Code)). first_of (other_checks P K ++ l)) (append-nil leak_checks)
@@ -193,7 +193,7 @@ module _ (P : Plan) (K : List ℕ) where
   abbrev placed : Code → ℕ
   placed d = if_accepted d (place_in (λ p. leaks (pool_of P K) p.coalition p.observer) (pairs P.clusters P.size P.limit)) 0
 
-  module _ (J : Joint) where
+  module _ (J : Option RelayPair) where
     abbrev before-looked : ℕ
     before-looked = placed (first_of (checks_before P K J))
 
@@ -219,13 +219,13 @@ module _ (P : Plan) (K : List ℕ) where
 
   module _ (a b : ℕ) where
     -- a pair that fits changes nothing before the walk
-    pub before-parts : relays_fit P a b ≡ true → first_of (checks_before P K (Relays a b)) ≡ first_of (other_checks P K)
+    pub before-parts : relays_fit P a b ≡ true → first_of (checks_before P K (relay_pair a b)) ≡ first_of (other_checks P K)
     before-parts fit = ap (λ (t : Bool). first_of (table_checks P K ++ ((not t, code 8) ∷ column_checks P K))) fit
 
     -- and where the checks before the walk accept, the pair fits
-    pub before-fits : accepted ≡ first_of (checks_before P K (Relays a b)) → relays_fit P a b ≡ true
+    pub before-fits : accepted ≡ first_of (checks_before P K (relay_pair a b)) → relays_fit P a b ≡ true
     before-fits e =
-        not-false (relays_fit P a b) (none-holds (checks_before P K (Relays a b)) (before-numbered (Relays a b)) e).1.1.1.1.0
+        not-false (relays_fit P a b) (none-holds (checks_before P K (relay_pair a b)) (before-numbered (relay_pair a b)) e).1.1.1.1.0
 
     abbrev leaking : ℕ → Bool
     leaking g = joint_leaks (pool_of P K) (a - 1) (b - 1) g
@@ -235,29 +235,29 @@ module _ (P : Plan) (K : List ℕ) where
       others = accepted-checked P K e
 
       -- where the vet accepts, the joint observer decides
-      pub joint-decides : first_of (joint_checks P K (Relays a b)) ≡ joint_code P K (Relays a b)
+      pub joint-decides : first_of (joint_checks P K (relay_pair a b)) ≡ joint_code P K (relay_pair a b)
       joint-decides =
-          rest-decides leak_checks (joint_checks P K (Relays a b)) (numbered-map (leak_check P K) (λ p. tt) (pairs P.clusters P.size P.limit))
+          rest-decides leak_checks (joint_checks P K (relay_pair a b)) (numbered-map (leak_check P K) (λ p. tt) (pairs P.clusters P.size P.limit))
           (e ∙ sym (walk-decides P K others))
-          ∙ rest-decides (checks_before P K (Relays a b)) (leak_checks ++ joint_checks P K (Relays a b)) (other-numbered P K) (others ∙ sym (before-parts fit))
+          ∙ rest-decides (checks_before P K (relay_pair a b)) (leak_checks ++ joint_checks P K (relay_pair a b)) (other-numbered P K) (others ∙ sym (before-parts fit))
 
       -- it refuses nothing, or names the least coalition with which it leaks
-      found : (NoneBelow (within P) leaking (2 ^ users_of P) × (accepted ≡ joint_code P K (Relays a b)))
-          ⊎ ((g : ℕ) × Least (within P) leaking (2 ^ users_of P) g × (least_code g ≡ joint_code P K (Relays a b)))
+      found : (NoneBelow (within P) leaking (2 ^ users_of P) × (accepted ≡ joint_code P K (relay_pair a b)))
+          ⊎ ((g : ℕ) × Least (within P) leaking (2 ^ users_of P) g × (least_code g ≡ joint_code P K (relay_pair a b)))
       unfolding coalitions
       found =
           ⊎_elim (λ s. inl (s.0, s.1 ∙ joint-decides)) (λ s. inr (s.0, s.1, s.2 ∙ joint-decides))
           (least (within P) leaking (2 ^ users_of P))
 
       -- where it refuses nothing, as many pairs were looked at as before, and otherwise 0
-      pub quiet-looked : accepted ≡ first_of (joint_checks P K (Relays a b)) → looked_at P K ≡ joint_looked P K (Relays a b)
-      quiet-looked k = looked-same (Relays a b) (sym (before-parts fit)) (ap (λ (d : Code). eqb d.number 19) (sym (k ∙ joint-decides)))
+      pub quiet-looked : accepted ≡ first_of (joint_checks P K (relay_pair a b)) → looked_at P K ≡ joint_looked P K (relay_pair a b)
+      quiet-looked k = looked-same (relay_pair a b) (sym (before-parts fit)) (ap (λ (d : Code). eqb d.number 19) (sym (k ∙ joint-decides)))
 
-      pub leaking-looked : is_accepted (first_of (joint_checks P K (Relays a b))) ≡ false → 0 ≡ joint_looked P K (Relays a b)
+      pub leaking-looked : is_accepted (first_of (joint_checks P K (relay_pair a b))) ≡ false → 0 ≡ joint_looked P K (relay_pair a b)
       leaking-looked k =
           ⊎_elim
           (λ s. absurd (subst T (ap is_accepted (s.1 ∙ sym joint-decides) ∙ k) tt))
-          (λ s. ap (λ (d : Code). cond (eqb d.number 19) 0 (before-looked (Relays a b))) s.2)
+          (λ s. ap (λ (d : Code). cond (eqb d.number 19) 0 (before-looked (relay_pair a b))) s.2)
           found
 
       -- the search finds a leak just where there is one
@@ -270,9 +270,9 @@ module _ (P : Plan) (K : List ℕ) where
       to-within g h = true→T (within P g) (le-leb (how_many (users_of P) (in_coalition g)) P.limit h)
 
       -- 19 names the coalition of least number with which the pair leaks
-      pub joint-named : (joint_code P K (Relays a b)).number ≡ 19
+      pub joint-named : (joint_code P K (relay_pair a b)).number ≡ 19
           → (g : ℕ)
-          × (joint_code P K (Relays a b) ≡ record { number = 19; first = g; second = 0 })
+          × (joint_code P K (relay_pair a b) ≡ record { number = 19; first = g; second = 0 })
           × (g < 2 ^ users_of P)
           × (how_many (users_of P) (in_coalition g) ≤ P.limit)
           × JointLeak (pool_of P K) (a - 1) (b - 1) g
@@ -292,7 +292,7 @@ module _ (P : Plan) (K : List ℕ) where
           found
 
       -- it is given just where the pair leaks with some coalition
-      pub joint-iff : ((joint_code P K (Relays a b)).number ≡ 19)
+      pub joint-iff : ((joint_code P K (relay_pair a b)).number ≡ 19)
           ↔ ((g : ℕ) × (g < 2 ^ users_of P) × (how_many (users_of P) (in_coalition g) ≤ P.limit) × JointLeak (pool_of P K) (a - 1) (b - 1) g)
       joint-iff = (
         (λ n. let w = joint-named n in (w.0, w.2, w.3, w.4)),
@@ -305,7 +305,7 @@ module _ (P : Plan) (K : List ℕ) where
 
       -- and where the pair leaks with none, the plan is accepted
       pub joint-quiet : ((g : ℕ) → g < 2 ^ users_of P → how_many (users_of P) (in_coalition g) ≤ P.limit → ¬ (JointLeak (pool_of P K) (a - 1) (b - 1) g))
-          → accepted ≡ joint_code P K (Relays a b)
+          → accepted ≡ joint_code P K (relay_pair a b)
       joint-quiet quiet =
           ⊎_elim
           (λ s. s.1)
@@ -315,12 +315,12 @@ module _ (P : Plan) (K : List ℕ) where
           found
 
   -- where the checks before the walk accept, so do those of the vet without a pair
-  pub before-accepts : (J : Joint) → accepted ≡ first_of (checks_before P K J) → accepted ≡ first_of (other_checks P K)
+  pub before-accepts : (J : Option RelayPair) → accepted ≡ first_of (checks_before P K J) → accepted ≡ first_of (other_checks P K)
   before-accepts None e = e
-  before-accepts (Relays a b) e = e ∙ before-parts a b (before-fits a b e)
+  before-accepts (Some r) e = e ∙ before-parts r.first r.second (before-fits r.first r.second e)
 
   -- and a leak that the walk finds is the answer, with or without a pair
-  pub walk-refuses : (J : Joint) → accepted ≡ first_of (checks_before P K J) → is_accepted (vet_code P K) ≡ false
+  pub walk-refuses : (J : Option RelayPair) → accepted ≡ first_of (checks_before P K J) → is_accepted (vet_code P K) ≡ false
       → (vet_code P K ≡ joint_code P K J) × (looked_at P K ≡ joint_looked P K J)
   walk-refuses J e k =
       let others : accepted ≡ first_of (other_checks P K) = before-accepts J e in

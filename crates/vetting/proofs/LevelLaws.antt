@@ -1,10 +1,10 @@
 -- The levels, 384 symbols apart in one list: what is before a level stays, a level is what was put there, and a copy from one to the next.
 use mathlib.Core.Path.{◌≡◌, sym, ap, ap₂, ◌∙◌}
 use mathlib.Core.List.{List, ◌++◌, append_assoc}
-use Prim.Native.Nat.{ℕ, suc, ◌+◌, ◌*◌, ◌≤◌, ◌<◌}
+use Prim.Native.Nat.{ℕ, ◌+◌, ◌*◌, ◌≤◌, ◌<◌}
 use native.Mathlib.Omega.{arith}
-use lib.ListN.{length, get_or, take, drop, set, length-drop, take-append-drop, get_or-append}
-use lib.Seq.{take_at, drop_at, drop-append-le, take-append-le, length-take-le, get_or-take, get_or-drop, paste, paste-suc}
+use lib.ListN.{length, take, drop, length-drop, take-append-drop}
+use lib.Seq.{take_at, drop_at, drop-append-le, take-append-le, length-take-le, paste}
 use Rattle.vetting.specs.Walking.{level_at, level_size}
 
 pub level-front : (size d : ℕ) (A M : List ℕ) → d * level_size + size ≤ length A → level_at size (A ++ M) d ≡ level_at size A d
@@ -28,21 +28,7 @@ module _ (size d k : ℕ) (L : List ℕ) (h : k * level_size ≤ length L) where
   pub level-here : (new R : List ℕ) → length new ≡ size → level_at size (take (k * level_size) L ++ (new ++ R)) k ≡ new
   level-here new R e = ap (take size) (drop_at (take (k * level_size) L) (new ++ R) (k * level_size) len) ∙ take_at new R size e
 
--- ---- a copy inside the list
-
-pub copied : (L : List ℕ) (a b n j : ℕ) → a + n ≤ b → b + n ≤ length L → j < n → set (paste L b (drop a L) j) (b + j) (get_or (paste L b (drop a L) j) (a + j) 0)
-    ≡ paste L b (drop a L) (suc j)
-copied L a b n j h l g =
-    let t : length (take b L) ≡ b = length-take-le b L (omega arith) in
-    let s : List ℕ = drop a L in
-    let e : get_or (paste L b s j) (a + j) 0 ≡ get_or s j 0 =
-    ap (λ (X : List ℕ). get_or X (a + j) 0) (append_assoc (take b L) (take j s) (drop (b + j) L))
-    ∙ get_or-append (take b L) (take j s ++ drop (b + j) L) 0 (a + j) (omega arith)
-    ∙ get_or-take b L (a + j) 0 (omega arith)
-    ∙ sym (get_or-drop a L j 0) in
-    ap (set (paste L b s j) (b + j)) e ∙ paste-suc L b s j 0 (omega arith) (omega (arith, length-drop a L))
-
--- a copy, and then a change of it in place
+-- ---- a copy inside the list, and then a change of it in place
 module _ (a b n m : ℕ) (L : List ℕ) (em : m ≡ n) (ha : a + n ≤ length L) (hb : b + n ≤ length L) where
   P : List ℕ
   P = paste L b (drop a L) n

@@ -13,7 +13,6 @@ mod BaseRows
 mod Deciding
 pub mod ExactSecrecy
 pub mod Looking
-pub mod OneCount
 pub mod JointLaws
 pub mod JointTheorems
 pub mod PlanLaws

@@ -1,4 +1,5 @@
 -- The levels along the walk, one coalition after the other; and the pairs that are left.
+use Rattle.std.specs.Prelude.{Some, None}
 use mathlib.Core.Path.{◌≡◌, refl, sym, ap, ap₂, ◌∙◌, subst}
 use mathlib.Core.Bool.{Bool, true, false, cond}
 use mathlib.Core.List.{List, [], ◌∷◌, ◌++◌, map, append_assoc, append-nil}
@@ -19,7 +20,6 @@ use Rattle.lists.specs.Lists.{at, join_to, picked}
 use Rattle.lists.specs.Sums.{how_many}
 use Rattle.secrecy.specs.Model.{in_coalition}
 use Rattle.vetting.specs.declared.Pair.{Pair}
-use Rattle.vetting.specs.declared.Found.TheVariants.{At, Nothing}
 use Rattle.vetting.specs.Walk.{pairs_with}
 use Rattle.vetting.specs.Walking.{level_at, descended, reduced_by, table_of, walk, first_hit, level_size, levels_size, most_rows}
 use Rattle.lists.proofs.BitLaws.{low-cleared, low_ones, cleared-fewer, cleared-next, ones-many}
@@ -203,7 +203,7 @@ pairs-are watching clusters size limit =
 -- ---- the first hit of what is left
 
 module _ (f : ℕ → ℕ → Bool) (g : ℕ) (R : List Pair) where
-  pub hit-first : (n w : ℕ) (ws : List ℕ) → f g w ≡ true → first_hit f n (map (pair_of g) (w ∷ ws) ++ R) ≡ walk (At (pair_of g w)) (n + 1)
+  pub hit-first : (n w : ℕ) (ws : List ℕ) → f g w ≡ true → first_hit f n (map (pair_of g) (w ∷ ws) ++ R) ≡ walk (Some (pair_of g w)) (n + 1)
   unfolding first_hit
   hit-first n w ws e = rw e refl
 
@@ -211,7 +211,7 @@ module _ (f : ℕ → ℕ → Bool) (g : ℕ) (R : List Pair) where
   unfolding first_hit
   miss-first n w ws e = rw e refl
 
-pub hit-none : (f : ℕ → ℕ → Bool) (n : ℕ) → first_hit f n [] ≡ walk Nothing n
+pub hit-none : (f : ℕ → ℕ → Bool) (n : ℕ) → first_hit f n [] ≡ walk None n
 unfolding first_hit
 hit-none f n = refl
 

@@ -1,14 +1,12 @@
 -- How long the vet is (document 02, Q-5): how many pairs there are, from the counts alone, and how many of them the vet looked at.
 use Rattle.std.specs.Prelude.{ℕ, suc, ◌+◌, ◌*◌, Bool, cond, not, List, [], ◌∷◌}
 use Rattle.refusals.specs.declared.Code.{Code}
-use Rattle.refusals.specs.Codes.{code, accepted, code_of, first_of, if_accepted, Outcome}
+use Rattle.refusals.specs.Codes.{code, first_of, if_accepted}
 use Rattle.lists.specs.Sums.{sum_to, binomial}
 use Rattle.secrecy.specs.Leaks.{leaks}
 use Rattle.plans.specs.declared.Plan.{Plan}
 use Rattle.plans.specs.Plans.{counts_fit}
 use Rattle.vetting.specs.declared.Pair.{Pair}
-use Rattle.vetting.specs.declared.PairCount.{PairCount}
-use Rattle.vetting.specs.declared.PairCount.TheVariants.{Pairs, Refused}
 use Rattle.vetting.specs.Pools.{pool_of}
 use Rattle.vetting.specs.Walk.{pairs}
 use Rattle.vetting.specs.Vet.{other_checks}
@@ -20,10 +18,6 @@ pair_count clusters size limit = (clusters + 1) * sum_to (limit + 1) (binomial (
 -- "From U, V and T alone": refused where they are outside their bounds
 abbrev pub count_checks : ℕ → ℕ → ℕ → List (Bool × Code)
 count_checks clusters size limit = (not (counts_fit clusters size limit), code 1) ∷ []
-
-abbrev pub counted_of : PairCount → Outcome
-counted_of (Pairs n) = record { refusal = accepted; value = n }
-counted_of (Refused r) = record { refusal = code_of r; value = 0 }
 
 -- the place of the first pair that leaks, from 1; where none does, that of the last
 unfoldable pub place_in : (Pair → Bool) → List Pair → ℕ

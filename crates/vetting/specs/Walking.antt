@@ -1,7 +1,7 @@
 -- What the private functions of the vet compute. Nothing here has to be believed: proofs tie it to the verdict.
 -- The vet keeps a reduced table for each depth of a coalition: level k holds the key table, and the sums of its clusters below it, eliminated by the
 -- rows of a coalition of k members.
-use Rattle.std.specs.Prelude.{ℕ, zero, suc, ◌+◌, ◌-◌, ◌*◌, ◌/◌, ◌%◌, ◌^◌, Bool, cond, not, ◌&&◌, ◌||◌, List, [], ◌∷◌, ◌++◌, eqb, ltb, take, drop}
+use Rattle.std.specs.Prelude.{ℕ, zero, suc, ◌+◌, ◌-◌, ◌*◌, ◌/◌, ◌%◌, ◌^◌, Bool, cond, not, ◌&&◌, ◌||◌, List, [], ◌∷◌, ◌++◌, eqb, ltb, take, drop, Option, Some, None}
 use Rattle.lists.specs.Lists.{at, tab, join_to, picked}
 use Rattle.matrices.specs.Tables.{row_of, eliminated, pivots_from}
 use Rattle.lists.specs.Sums.{sum_to, how_many}
@@ -10,9 +10,7 @@ use Rattle.refusals.specs.declared.Code.{Code}
 use Rattle.refusals.specs.Codes.{accepted}
 use Rattle.plans.specs.declared.Plan.{Plan}
 use Rattle.vetting.specs.declared.Pair.{Pair}
-use Rattle.vetting.specs.declared.Found.{Found}
 use Rattle.vetting.specs.declared.Walked.{Walked}
-use Rattle.vetting.specs.declared.Found.TheVariants.{At, Nothing}
 use Rattle.plans.specs.Plans.{users_of}
 use Rattle.vetting.specs.Walk.{pairs_with}
 
@@ -112,24 +110,24 @@ hit P both T g w =
     dependent P.q (rows_in P) P.rate (watch_mask P.clusters P.size both g w) g (table_of P.q (rows_in P) P.rate T g)
 
 -- what a walk found, and how many pairs it looked at
-abbrev pub walk : Found → ℕ → Walked
+abbrev pub walk : Option Pair → ℕ → Walked
 walk found looked = record { found = found; looked = looked }
 
 -- the first hit of a list, n pairs after the walk began
 unfoldable pub first_hit : (ℕ → ℕ → Bool) → ℕ → List Pair → Walked
-first_hit f n [] = walk Nothing n
-first_hit f n (p ∷ l) = cond (f p.coalition p.observer) (walk (At p) (n + 1)) (first_hit f (n + 1) l)
+first_hit f n [] = walk None n
+first_hit f n (p ∷ l) = cond (f p.coalition p.observer) (walk (Some p) (n + 1)) (first_hit f (n + 1) l)
 
 -- a walk with some observers
 abbrev pub walked : Plan → ℕ → List ℕ → List ℕ → Walked
 walked P both watching T = first_hit (hit P both T) 0 (pairs_with watching P.clusters P.size P.limit)
 
 -- the code of what the walk with the joint observer finds
-abbrev pub joint_found : Found → Code
-joint_found (At p) = record { number = 19; first = p.coalition; second = 0 }
-joint_found Nothing = accepted
+abbrev pub joint_found : Option Pair → Code
+joint_found (Some p) = record { number = 19; first = p.coalition; second = 0 }
+joint_found None = accepted
 
 -- the code of what the walk finds
-abbrev pub found_code : Found → Code
-found_code (At p) = record { number = 7; first = p.coalition; second = p.observer }
-found_code Nothing = accepted
+abbrev pub found_code : Option Pair → Code
+found_code (Some p) = record { number = 7; first = p.coalition; second = p.observer }
+found_code None = accepted

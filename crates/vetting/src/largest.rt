@@ -7,7 +7,6 @@ ghost use Rattle.vetting.specs.Vet.{vet_code};
 ghost use Rattle.vetting.specs.Walking.{level_at, levels_size, through, base_table};
 ghost use Rattle.vetting.specs.Growing.{is_quiet_at, grown};
 
-use crate::Joint;
 use crate::under_lock::check_before;
 use crate::walk::{LEVELS, descend, leaks_to, set_base};
 use arithmetic::Symbol;
@@ -27,12 +26,10 @@ fn is_quiet(
     ensures { result ≡ is_quiet_at (plan clusters size 0 cols q) g (level_at ((clusters * size + clusters) * cols) levels.now k) }
 {
     let last = clusters as u16 + 1;
-    let mut w: u16 = 0;
-    while w < last {
+    for w in 0..last {
         if leaks_to(q, clusters, size, cols, 0, k, g, w, levels) {
             return false;
         }
-        w += 1;
     }
     true
 }
@@ -64,14 +61,10 @@ fn grow(
     }
     let rows = clusters * size + clusters;
     let j = i - 1;
-    if descend(q, rows, cols, k + 1, j, levels) {
-        let h = g + (1u16 << j as u32);
-        if grow(q, clusters, size, limit, cols, j, k + 1, h, levels) {
-            return grow(q, clusters, size, limit, cols, j, k, g, levels);
-        }
-        return false;
-    }
-    false
+    let h = g + (1u16 << j as u32);
+    descend(q, rows, cols, k + 1, j, levels)
+        && grow(q, clusters, size, limit, cols, j, k + 1, h, levels)
+        && grow(q, clusters, size, limit, cols, j, k, g, levels)
 }
 
 // Whether they all pass, from nobody on.
@@ -98,9 +91,8 @@ fn largest_pass(plan: Plan, table: &[Symbol]) -> bool
 pub fn accepts(plan: Plan, table: &[Symbol]) -> bool
     ensures { result ≡ is_accepted (vet_code plan table.now) }
 {
-    let before = check_before(plan, table, Joint::None);
-    if !before.is_accepted() {
-        return false;
+    match check_before(plan, table, None) {
+        Ok(()) => largest_pass(plan, table),
+        Err(_) => false,
     }
-    largest_pass(plan, table)
 }

@@ -1,12 +1,11 @@
 // How many pairs the vet has to look at, from the counts alone.
 ghost use Rattle.std.specs.Prelude.{◌≡◌, ◌+◌, ◌≤◌};
-ghost use Rattle.refusals.specs.Codes.{outcome};
+ghost use Rattle.refusals.specs.Codes.{outcome, outcome_of};
 ghost use Rattle.lists.specs.Sums.{sum_to, binomial};
-ghost use Rattle.vetting.specs.Length.{pair_count, count_checks, counted_of};
+ghost use Rattle.vetting.specs.Length.{pair_count, count_checks};
 
-use crate::PairCount;
 use plans::counts_fit;
-use refusals::Refusal;
+use refusals::{Refusal, refuse_unless};
 
 // How many sets of at most `limit` there are out of n; those of each size from those of one less.
 fn sets_up_to(n: u32, limit: u32) -> u32
@@ -15,23 +14,19 @@ fn sets_up_to(n: u32, limit: u32) -> u32
 {
     let mut sets: u32 = 1;
     let mut sum: u32 = 1;
-    let mut k: u32 = 0;
-    while k < limit {
+    for k in 0..limit {
         sets = sets * (n - k) / (k + 1);
         sum += sets;
-        k += 1;
     }
     sum
 }
 
 // Every coalition of at most `limit` users with every observer: what the vet looks at before it accepts a plan.
-pub fn count_pairs(clusters: usize, size: usize, limit: usize) -> PairCount
-    ensures { counted_of result ≡ outcome (count_checks clusters size limit) (pair_count clusters size limit) }
+pub fn count_pairs(clusters: usize, size: usize, limit: usize) -> Result<u32, Refusal>
+    ensures { outcome_of result ≡ outcome (count_checks clusters size limit) (pair_count clusters size limit) }
 {
-    if !counts_fit(clusters, size, limit) {
-        return PairCount::Refused(Refusal::OutOfBounds);
-    }
+    refuse_unless(counts_fit(clusters, size, limit), Refusal::OutOfBounds)?;
     let users = (clusters * size) as u32;
     let observers = clusters as u32 + 1;
-    PairCount::Pairs(observers * sets_up_to(users, limit as u32))
+    Ok(observers * sets_up_to(users, limit as u32))
 }

@@ -1,6 +1,5 @@
 // The walk over coalitions and observers, with one reduced table for each depth of a coalition.
 ghost use Rattle.std.specs.Prelude.{◌≡◌, ◌+◌, ◌-◌, ◌*◌, ◌%◌, ◌≤◌, ◌<◌, ◌^◌, true, ◌++◌, length, take, drop};
-ghost use Rattle.std.proofs.Math.Seq.{paste};
 ghost use Rattle.lists.specs.Lists.{at, tab, join_to, picked};
 ghost use Rattle.matrices.specs.Tables.{row_of, has_pivot};
 ghost use Rattle.lists.specs.Sums.{sum_to, how_many};
@@ -8,9 +7,9 @@ ghost use Rattle.plans.specs.Plans.{plan, users_of, in_bounds};
 ghost use Rattle.vetting.specs.Walking.{most_rows, levels_size, chosen, cluster_mask, outsider_in, tested_mask, joint_mask, watch_mask};
 ghost use Rattle.vetting.specs.Walking.{cluster_sum, base_table, level_at, descended, dependent, walked};
 
-use crate::{Found, Pair, Walked};
+use crate::{Pair, Walked};
 use arithmetic::Symbol;
-use matrices::{copy, eliminate, reduce_rows};
+use matrices::{eliminate, reduce_rows};
 use plans::Plan;
 
 // The rows of the largest table: the users', and the clusters' below them.
@@ -27,11 +26,7 @@ fn is_chosen(watch: u32, skip: u32, i: u32) -> bool
     requires { i < 32 }
     ensures { result ≡ chosen watch skip i }
 {
-    if (watch >> i) & 1 == 1 {
-        (skip >> i) & 1 != 1
-    } else {
-        false
-    }
+    (watch >> i) & 1 == 1 && (skip >> i) & 1 != 1
 }
 
 // The users of cluster u.
@@ -59,13 +54,11 @@ fn tested_mask(clusters: u32, size: u32, g: u32) -> u32
 {
     let mut seen: u32 = 0;
     let mut tested: u32 = 0;
-    let mut u: u32 = 0;
-    while u < clusters {
+    for u in 0..clusters {
         if has_outsider(size, g, u) {
             tested = seen;
             seen = seen + (1 << u);
         }
-        u += 1;
     }
     tested
 }
@@ -76,13 +69,11 @@ pub(crate) fn joint_mask(users: u32, size: u32, first: u32, second: u32) -> u32
     ensures { result ≡ joint_mask size first second users }
 {
     let mut mask: u32 = 0;
-    let mut i: u32 = 0;
-    while i < users {
+    for i in 0..users {
         let u = i / size;
         if u == first || u == second {
             mask = mask + (1 << i);
         }
-        i += 1;
     }
     mask
 }
@@ -102,18 +93,6 @@ fn watch_mask(clusters: u32, size: u32, both: u32, g: u32, w: u32) -> u32
     both
 }
 
-// n symbols from a on are put at b, which lies after them.
-fn copy_down(levels: &mut [Symbol], a: usize, b: usize, n: usize)
-    requires { (a + n ≤ b) × (b + n ≤ length levels.old) }
-    ensures { levels.new ≡ paste levels.old b (drop a levels.old) n }
-{
-    let mut j = 0;
-    while j < n {
-        levels[b + j] = levels[a + j];
-        j += 1;
-    }
-}
-
 // Level k becomes level k - 1 eliminated by row i; whether that row is not 0.
 pub(crate) fn descend(
     q: Symbol,
@@ -130,9 +109,8 @@ pub(crate) fn descend(
     let n = rows * cols;
     let b = k * LEVEL;
     let a = b - LEVEL;
-    let e = b + n;
-    copy_down(levels, a, b, n);
-    eliminate(q, rows, cols, i, &mut levels[b..e])
+    levels.copy_within(a..a + n, b);
+    eliminate(q, rows, cols, i, &mut levels[b..b + n])
 }
 
 // Row i of a table is put at row n of another.
@@ -142,10 +120,8 @@ fn copy_row(cols: usize, i: usize, n: usize, table: &[Symbol], out: &mut [Symbol
         ++ (row_of cols table.now i ++ drop (n * cols + cols) out.old) }
 {
     let a = i * cols;
-    let ae = a + cols;
     let b = n * cols;
-    let be = b + cols;
-    copy(&table[a..ae], &mut out[b..be]);
+    out[b..b + cols].copy_from_slice(&table[a..a + cols]);
 }
 
 // Puts the rows that `watch` names and `skip` doesn't one after the other; how many they are.
@@ -162,13 +138,11 @@ fn gather(
         × (take (result * cols) out.new ≡ picked rows (chosen watch skip) (row_of cols table.now)) }
 {
     let mut n: usize = 0;
-    let mut i: usize = 0;
-    while i < rows {
+    for i in 0..rows {
         if is_chosen(watch, skip, i as u32) {
             copy_row(cols, i, n, table, out);
             n += 1;
         }
-        i += 1;
     }
     n
 }
@@ -187,8 +161,7 @@ fn are_dependent(
 {
     let mut s = [0 as Symbol; LEVEL];
     let n = gather(rows, cols, watch, skip, table, &mut s);
-    let m = n * cols;
-    reduce_rows(q, n, cols, &mut s[..m]) != n
+    reduce_rows(q, n, cols, &mut s[..n * cols]) != n
 }
 
 // Whether the rows that an observer watches depend on each other over those of the coalition g, whose table stands on level k.
@@ -210,8 +183,7 @@ pub(crate) fn leaks_to(
     let rows = clusters * size + clusters;
     let watch = watch_mask(clusters as u32, size as u32, both, g as u32, w as u32);
     let b = k * LEVEL;
-    let e = b + rows * cols;
-    are_dependent(q, rows, cols, watch, g as u32, &levels[b..e])
+    are_dependent(q, rows, cols, watch, g as u32, &levels[b..b + rows * cols])
 }
 
 // The first pair whose rows depend on each other: coalitions in rising number, and in each the observers in the order given. A coalition's lowest member is
@@ -242,25 +214,22 @@ fn walk_levels(
                 let i = u16::trailing_zeros(g) as usize;
                 descend(q, rows, cols, k, i, levels);
             }
-            let mut w: usize = 0;
-            while w < watching.len() {
-                let observer = watching[w];
+            for &observer in watching {
                 looked += 1;
                 if leaks_to(q, clusters, size, cols, both, k, g, observer, levels) {
                     break 'walk Walked {
-                        found: Found::At(Pair {
+                        found: Some(Pair {
                             coalition: g,
                             observer,
                         }),
                         looked,
                     };
                 }
-                w += 1;
             }
         }
         if g == top {
             break 'walk Walked {
-                found: Found::Nothing,
+                found: None,
                 looked,
             };
         }
@@ -274,11 +243,8 @@ fn cluster_sum(q: Symbol, size: usize, rate: usize, u: usize, k: usize, table: &
     ensures { result ≡ cluster_sum q size rate table.now u k }
 {
     let mut sum: Symbol = 0;
-    let mut v: usize = 0;
-    while v < size {
-        let i = (u * size + v) * rate + k;
-        sum = arithmetic::add_mod(q, sum, table[i]);
-        v += 1;
+    for v in 0..size {
+        sum = arithmetic::add_mod(q, sum, table[(u * size + v) * rate + k]);
     }
     sum
 }
@@ -296,10 +262,8 @@ fn sum_row(q: Symbol, size: usize, rate: usize, u: usize, table: &[Symbol], out:
     requires { (0 < q) × ((u * size + size) * rate ≤ length table.now) × (length out.old ≡ rate) }
     ensures { out.new ≡ tab rate (cluster_sum q size rate table.now u) }
 {
-    let mut k = 0;
-    while k < rate {
+    for k in 0..rate {
         out[k] = cluster_sum(q, size, rate, u, k, table);
-        k += 1;
     }
 }
 
@@ -315,12 +279,9 @@ fn sum_rows(
     requires { (0 < q) × (clusters * size * rate ≤ length table.now) × (clusters * rate ≡ length out.old) }
     ensures { out.new ≡ join_to clusters (λ u. tab rate (cluster_sum q size rate table.now u)) }
 {
-    let mut u = 0;
-    while u < clusters {
+    for u in 0..clusters {
         let b = u * rate;
-        let e = b + rate;
-        sum_row(q, size, rate, u, table, &mut out[b..e]);
-        u += 1;
+        sum_row(q, size, rate, u, table, &mut out[b..b + rate]);
     }
 }
 
@@ -332,7 +293,7 @@ pub(crate) fn set_base(plan: Plan, table: &[Symbol], levels: &mut [Symbol])
 {
     let n = plan.clusters * plan.size * plan.rate;
     let e = n + plan.clusters * plan.rate;
-    copy(table, &mut levels[0..n]);
+    levels[..n].copy_from_slice(table);
     sum_rows(
         plan.q,
         plan.clusters,

@@ -2,65 +2,57 @@
 use crate::tables::{Shape, make, symbols};
 use crate::wrong;
 use arithmetic::Symbol;
-use testing::{product, put, quotient, residue, seed};
+use testing::{clip, product, put, quotient, residue, seed};
 
-#[derive(Clone, Copy)]
+// Tiny plans with q 2, 3 and 5, the small pool, and inputs that are no good.
+#[derive(Clone, Copy, Debug, PartialEq, Eq)]
+pub enum Group {
+    TinyTwo,
+    TinyThree,
+    TinyFive,
+    SmallPool,
+    WrongInputs,
+}
+
+#[derive(Clone, Copy, Debug, PartialEq, Eq)]
 pub struct Case {
-    pub group: usize,
+    pub group: Group,
     pub number: usize,
 }
 
-// Groups that are named elsewhere.
-pub const TINY_Q2: usize = 0;
+impl Group {
+    pub fn name(self) -> &'static str {
+        match self {
+            Group::TinyTwo => "tiny plans, q 2",
+            Group::TinyThree => "tiny plans, q 3",
+            Group::TinyFive => "tiny plans, q 5",
+            Group::SmallPool => "small pool",
+            Group::WrongInputs => "wrong inputs",
+        }
+    }
 
-pub const TINY_Q3: usize = 1;
-
-pub const SMALL_POOL: usize = 3;
-
-pub const WRONG_INPUTS: usize = 4;
-
-// Tiny plans with q 2, 3 and 5, the small pool, and inputs that are no good.
-pub fn cases(group: usize) -> usize {
-    match group {
-        0 => 6160,
-        1 => 4800,
-        2 => 3200,
-        3 => 2,
-        _ => wrong::CASES,
+    pub fn cases(self) -> usize {
+        match self {
+            Group::TinyTwo => 6160,
+            Group::TinyThree => 4800,
+            Group::TinyFive => 3200,
+            Group::SmallPool => 2,
+            Group::WrongInputs => wrong::CASES,
+        }
     }
 }
 
 // 11 grids of users: the first 5 have at most 3, the first 8 at most 4, and no grid has more than 6.
+static CLUSTERS: [usize; 11] = [1, 1, 2, 1, 3, 1, 2, 4, 5, 2, 3];
+
 fn clusters(grid: usize) -> usize {
-    match grid {
-        0 => 1,
-        1 => 1,
-        2 => 2,
-        3 => 1,
-        4 => 3,
-        5 => 1,
-        6 => 2,
-        7 => 4,
-        8 => 5,
-        9 => 2,
-        _ => 3,
-    }
+    CLUSTERS[clip(grid, 10)]
 }
 
+static SIZE: [usize; 11] = [1, 2, 1, 3, 1, 4, 2, 1, 1, 3, 2];
+
 fn size(grid: usize) -> usize {
-    match grid {
-        0 => 1,
-        1 => 2,
-        2 => 1,
-        3 => 3,
-        4 => 1,
-        5 => 4,
-        6 => 2,
-        7 => 1,
-        8 => 1,
-        9 => 3,
-        _ => 2,
-    }
+    SIZE[clip(grid, 10)]
 }
 
 // The first grids with each R up to some number and each T.
@@ -89,53 +81,37 @@ fn pool(number: usize) -> Shape {
     }
 }
 
-fn pool_symbol(i: usize) -> usize {
-    match i {
-        0 => 1,
-        3 => 1,
-        4 => 2,
-        5 => 4,
-        6 => 1,
-        7 => 4,
-        8 => 1,
-        9 => 2,
-        10 => 4,
-        _ => 0,
-    }
-}
+static POOL: [usize; 12] = [1, 0, 0, 1, 2, 4, 1, 4, 1, 2, 4, 0];
 
 fn fill_pool(t: &mut [Symbol]) {
     for i in 0..t.len() {
-        put(t, i, pool_symbol(i));
+        put(t, i, POOL[clip(i, 11)]);
     }
 }
 
 // Few enough users and small enough q for views that 16 bits tell apart, and at most 125 source keys.
 pub fn shape(c: Case) -> Shape {
-    let group = c.group;
-    match group {
-        0 => tiny(2, 11, 4, c.number),
-        1 => tiny(3, 8, 3, c.number),
-        2 => tiny(5, 5, 2, c.number),
-        3 => pool(c.number),
-        _ => wrong::shape(c.number),
+    match c.group {
+        Group::TinyTwo => tiny(2, 11, 4, c.number),
+        Group::TinyThree => tiny(3, 8, 3, c.number),
+        Group::TinyFive => tiny(5, 5, 2, c.number),
+        Group::SmallPool => pool(c.number),
+        Group::WrongInputs => wrong::shape(c.number),
     }
 }
 
 pub fn length(c: Case) -> usize {
-    let group = c.group;
-    match group {
-        0 | 1 | 2 | 3 => symbols(shape(c)),
-        _ => wrong::length(c.number),
+    match c.group {
+        Group::WrongInputs => wrong::length(c.number),
+        _ => symbols(shape(c)),
     }
 }
 
 // From a table of zeros.
 pub fn fill(c: Case, t: &mut [Symbol]) {
-    let group = c.group;
-    match group {
-        0 | 1 | 2 => make(shape(c), t, seed(seed(c.number))),
-        3 => fill_pool(t),
-        _ => wrong::fill(c.number, t),
+    match c.group {
+        Group::SmallPool => fill_pool(t),
+        Group::WrongInputs => wrong::fill(c.number, t),
+        _ => make(shape(c), t, seed(seed(c.number))),
     }
 }

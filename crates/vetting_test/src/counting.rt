@@ -8,7 +8,7 @@ use std::num::{wrapping_add_u8, wrapping_add_usize, wrapping_sub_u8};
 use testing::{mul_add, narrow16, power, product, quotient, residue};
 
 // A coalition and an observer, 0 for the server; of a joint observer two relays, else the other is 0.
-#[derive(Clone, Copy)]
+#[derive(Clone, Copy, Debug, PartialEq, Eq)]
 struct Pair {
     coalition: usize,
     observer: usize,
@@ -16,7 +16,7 @@ struct Pair {
 }
 
 // A view as one number, a digit to the base q for each symbol; and the sum of the cluster that is being gone through.
-#[derive(Clone, Copy)]
+#[derive(Clone, Copy, Debug, PartialEq, Eq)]
 struct Part {
     number: usize,
     sum: usize,
@@ -62,14 +62,15 @@ fn append(q: usize, number: usize, symbol: usize) -> usize {
 fn seen_by_server(s: Shape, i: usize, upload: usize, v: Part) -> Part {
     let sum = residue(v.sum % 65536 + upload % 65536, s.q);
     if residue(i % 65536 + 1, s.size) == 0 {
-        return Part {
+        Part {
             number: append(s.q, v.number, sum),
             sum: 0,
-        };
-    }
-    Part {
-        number: v.number,
-        sum,
+        }
+    } else {
+        Part {
+            number: v.number,
+            sum,
+        }
     }
 }
 
@@ -80,22 +81,24 @@ fn seen(s: Shape, p: Pair, i: usize, upload: usize, v: Part) -> Part {
     }
     let relay = quotient(i, s.size) % 65536 + 1;
     if relay != p.observer && relay != p.other {
-        return v;
-    }
-    Part {
-        number: append(s.q, v.number, upload),
-        sum: 0,
+        v
+    } else {
+        Part {
+            number: append(s.q, v.number, upload),
+            sum: 0,
+        }
     }
 }
 
 // A member of the coalition gives its key.
 fn given(q: usize, member: bool, key: usize, v: Part) -> Part {
     if !member {
-        return v;
-    }
-    Part {
-        number: append(q, v.number, key),
-        sum: v.sum,
+        v
+    } else {
+        Part {
+            number: append(q, v.number, key),
+            sum: v.sum,
+        }
     }
 }
 
@@ -168,7 +171,7 @@ fn differ(
 }
 
 // What is kept of readings, their place, and for those that are not kept their sum and the first one's place.
-#[derive(Clone, Copy)]
+#[derive(Clone, Copy, Debug, PartialEq, Eq)]
 struct Kept {
     readings: usize,
     place: usize,
@@ -179,18 +182,19 @@ struct Kept {
 fn keep(q: usize, k: Kept, member: bool, digit: usize) -> Kept {
     let place = product(k.place, q);
     if member {
-        return Kept {
+        Kept {
             readings: mul_add(k.readings, k.place, digit),
             place,
             sum: k.sum,
             free: k.free,
-        };
-    }
-    Kept {
-        readings: k.readings,
-        place,
-        sum: k.sum % 65536 + digit % 65536,
-        free: if k.free == 0 { k.place } else { k.free },
+        }
+    } else {
+        Kept {
+            readings: k.readings,
+            place,
+            sum: k.sum % 65536 + digit % 65536,
+            free: if k.free == 0 { k.place } else { k.free },
+        }
     }
 }
 
@@ -212,9 +216,10 @@ fn agreeing(s: Shape, p: Pair, w: usize) -> usize {
         readings = quotient(readings, s.q);
     }
     if p.observer != 0 {
-        return k.readings;
+        k.readings
+    } else {
+        mul_add(k.readings, k.free, residue(k.sum, s.q))
     }
-    mul_add(k.readings, k.free, residue(k.sum, s.q))
 }
 
 fn leaks(s: Shape, keys: &[u8; 512], p: Pair, counts: &mut [u8; 65536]) -> bool {
@@ -246,18 +251,12 @@ fn nth_pair(s: Shape, x: usize) -> Pair {
 
 // Whether pair number x is one of the plan's.
 fn is_pair(s: Shape, x: usize) -> bool {
-    if x % OBSERVERS > s.clusters {
-        return false;
-    }
-    ones(x / OBSERVERS, users(s)) <= s.limit
+    x % OBSERVERS <= s.clusters && ones(x / OBSERVERS, users(s)) <= s.limit
 }
 
 // Whether it is, and leaks.
 fn leaks_at(s: Shape, keys: &[u8; 512], x: usize, counts: &mut [u8; 65536]) -> bool {
-    if !is_pair(s, x) {
-        return false;
-    }
-    leaks(s, keys, nth_pair(s, x), counts)
+    is_pair(s, x) && leaks(s, keys, nth_pair(s, x), counts)
 }
 
 // The answer that names pair number x.
@@ -305,10 +304,7 @@ pub fn leak_of(s: Shape, t: &[Symbol], counts: &mut [u8; 65536]) -> usize {
 
 // Whether a coalition of at most T users leaks to the joint observer of two relays.
 fn leaks_jointly(s: Shape, keys: &[u8; 512], p: Pair, counts: &mut [u8; 65536]) -> bool {
-    if ones(p.coalition, users(s)) > s.limit {
-        return false;
-    }
-    leaks(s, keys, p, counts)
+    ones(p.coalition, users(s)) <= s.limit && leaks(s, keys, p, counts)
 }
 
 // The first coalition that does, packed with the number 19; 0 where none does.

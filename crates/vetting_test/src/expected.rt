@@ -22,12 +22,10 @@ fn sum(s: Shape, t: &[Symbol], k: usize) -> usize {
 // The first column, from 1, whose sum is not 0; found from the last column back. 0 where there is none.
 fn wrong_column(s: Shape, t: &[Symbol]) -> usize {
     let mut found: usize = 0;
-    let mut k = s.rate;
-    while k > 0 {
-        if sum(s, t, k - 1) != 0 {
-            found = k;
+    for k in (0..s.rate).rev() {
+        if sum(s, t, k) != 0 {
+            found = k + 1;
         }
-        k -= 1;
     }
     found
 }
@@ -47,8 +45,5 @@ pub fn refusal(s: Shape, t: &[Symbol]) -> usize {
         return pack(3, 0, 0);
     }
     let k = wrong_column(s, t);
-    if k == 0 {
-        return 0;
-    }
-    pack(6, k, 0)
+    if k == 0 { 0 } else { pack(6, k, 0) }
 }

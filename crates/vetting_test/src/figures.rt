@@ -6,7 +6,6 @@ use crate::tables::Shape;
 use std::io;
 use std::num::wrapping_add_usize;
 use testing::wide16;
-use vetting::PairCount;
 
 // U and V from 0 to 9, T from 0 to 17: all counts within their bounds, and some outside.
 const INPUTS: usize = 1800;
@@ -24,16 +23,17 @@ fn shape(x: usize) -> Shape {
 // All pairs of the walk, one by one: 0 is no answer that names one.
 fn expected(s: Shape) -> usize {
     if !fits(s) {
-        return pack(1, 0, 0);
+        pack(1, 0, 0)
+    } else {
+        place_of(s, 0)
     }
-    place_of(s, 0)
 }
 
 fn counted(s: Shape) -> usize {
     match vetting::count_pairs(s.clusters, s.size, s.limit) {
-        PairCount::Pairs(n) => n as usize,
-        PairCount::Refused(refusal) => {
-            let code = refusals::code_of(refusal);
+        Ok(n) => n as usize,
+        Err(refusal) => {
+            let code = refusal.code();
             pack(wide16(code.number), wide16(code.first), wide16(code.second))
         }
     }
@@ -44,9 +44,12 @@ fn class(x: usize) -> usize {
     let s = shape(x);
     let n = counted(s);
     if n != expected(s) {
-        return 2;
+        2
+    } else if n < 4294967296 {
+        0
+    } else {
+        1
     }
-    if n < 4294967296 { 0 } else { 1 }
 }
 
 fn increase(tally: &mut [usize; 3], n: usize) {

@@ -1,6 +1,6 @@
 // The vet with relays under one lock, and without, against the same literal counts: tiny plans of three clusters or more, the small pool, which has two, and
 // inputs that are no good, each with every pair below.
-use crate::cases::Case;
+use crate::cases::{Case, Group};
 use crate::counting::joint_leak_of;
 use crate::numbers::{first_of, number_of, pack};
 use crate::tables::Shape;
@@ -8,7 +8,7 @@ use crate::{LONGEST, cases, looked_at, plan_of, said, second_answer};
 use arithmetic::Symbol;
 use std::io;
 use std::num::wrapping_add_usize;
-use vetting::Joint;
+use vetting::RelayPair;
 
 // Places in the tally: the number of the answer, but one more for 19 where it names a coalition of some users, and another for two answers that differ.
 const ACCEPTED: usize = 0;
@@ -41,35 +41,21 @@ const PLACES: usize = 23;
 // Of the tiny plans those that have at least so many.
 const CLUSTERS: usize = 3;
 
-#[derive(Clone, Copy)]
-struct Relays {
-    first: usize,
-    second: usize,
-}
-
-fn pair(first: usize, second: usize) -> Relays {
-    Relays { first, second }
-}
-
-const PAIRS: usize = 10;
-
 // The first 3 fit three clusters, the first 5 four. The others are equal, reversed, or outside: 2^32 + 2 would be cut to 2.
-fn relays_of(n: usize) -> Relays {
-    match n {
-        0 => pair(1, 2),
-        1 => pair(1, 3),
-        2 => pair(2, 3),
-        3 => pair(2, 4),
-        4 => pair(3, 4),
-        5 => pair(2, 2),
-        6 => pair(2, 1),
-        7 => pair(3, 1),
-        8 => pair(0, 1),
-        _ => pair(1, 4294967298),
-    }
-}
+static RELAYS: [[usize; 2]; 10] = [
+    [1, 2],
+    [1, 3],
+    [2, 3],
+    [2, 4],
+    [3, 4],
+    [2, 2],
+    [2, 1],
+    [3, 1],
+    [0, 1],
+    [1, 4294967298],
+];
 
-fn fit(s: Shape, r: Relays) -> bool {
+fn fit(s: Shape, r: RelayPair) -> bool {
     r.first != 0 && r.second > r.first && r.second <= s.clusters
 }
 
@@ -82,43 +68,38 @@ fn comes_first(number: usize) -> bool {
 }
 
 // From the answer without a pair: 8 comes after 1, 4, 2 and 3, and before 6 and 7; 19 comes last.
-fn expected(s: Shape, r: Relays, alone: usize, t: &[Symbol], counts: &mut [u8; 65536]) -> usize {
+fn expected(s: Shape, r: RelayPair, alone: usize, t: &[Symbol], counts: &mut [u8; 65536]) -> usize {
     if comes_first(number_of(alone)) {
-        return alone;
+        alone
+    } else if !fit(s, r) {
+        pack(UNKNOWN_NUMBER, 0, 0)
+    } else if alone != ACCEPTED {
+        alone
+    } else {
+        joint_leak_of(s, t, r.first, r.second, counts)
     }
-    if !fit(s, r) {
-        return pack(UNKNOWN_NUMBER, 0, 0);
-    }
-    if alone != ACCEPTED {
-        return alone;
-    }
-    joint_leak_of(s, t, r.first, r.second, counts)
 }
 
 // Whether the vet gives this answer, and the count of pairs that goes with it.
-fn agrees(s: Shape, t: &[Symbol], joint: Joint, answer: usize) -> bool {
+fn agrees(s: Shape, t: &[Symbol], joint: Option<RelayPair>, answer: usize) -> bool {
     let report = vetting::vet_joint(plan_of(s), t, joint);
-    let verdict = report.verdict;
-    said(verdict) == answer && report.looked as usize == looked_at(s, answer)
+    said(report.verdict) == answer && report.looked as usize == looked_at(s, answer)
 }
 
 // Where an answer is counted.
 fn place(answer: usize) -> usize {
     let number = number_of(answer);
     if number == JOINT_LEAKS && first_of(answer) != 0 {
-        return WITH_COALITION;
+        WITH_COALITION
+    } else {
+        number
     }
-    number
 }
 
 // The place of the answer with a pair, or that the two answers differ.
-fn compare(s: Shape, r: Relays, alone: usize, t: &[Symbol], counts: &mut [u8; 65536]) -> usize {
+fn compare(s: Shape, r: RelayPair, alone: usize, t: &[Symbol], counts: &mut [u8; 65536]) -> usize {
     let answer = expected(s, r, alone, t, counts);
-    let joint = Joint::Relays {
-        first: r.first,
-        second: r.second,
-    };
-    if agrees(s, t, joint, answer) {
+    if agrees(s, t, Some(r), answer) {
         place(answer)
     } else {
         DIFFER
@@ -138,8 +119,9 @@ fn try_pairs(
     counts: &mut [u8; 65536],
     tally: &mut [usize; PLACES],
 ) {
-    for n in 0..PAIRS {
-        increase(tally, compare(s, relays_of(n), alone, t, counts));
+    for &[first, second] in &RELAYS {
+        let relays = RelayPair { first, second };
+        increase(tally, compare(s, relays, alone, t, counts));
     }
 }
 
@@ -148,7 +130,7 @@ fn try_plan(c: Case, t: &mut [Symbol], counts: &mut [u8; 65536], tally: &mut [us
     cases::fill(c, t);
     let s = cases::shape(c);
     let alone = second_answer(c, t, counts);
-    let place = if agrees(s, t, Joint::None, alone) {
+    let place = if agrees(s, t, None, alone) {
         ALONE
     } else {
         DIFFER
@@ -159,7 +141,7 @@ fn try_plan(c: Case, t: &mut [Symbol], counts: &mut [u8; 65536], tally: &mut [us
 
 fn is_tried(c: Case) -> bool {
     let s = cases::shape(c);
-    s.clusters >= CLUSTERS || c.group == cases::SMALL_POOL || c.group == cases::WRONG_INPUTS
+    s.clusters >= CLUSTERS || c.group == Group::SmallPool || c.group == Group::WrongInputs
 }
 
 fn try_case(c: Case, counts: &mut [u8; 65536], tally: &mut [usize; PLACES]) {
@@ -175,9 +157,8 @@ fn try_case(c: Case, counts: &mut [u8; 65536], tally: &mut [usize; PLACES]) {
     try_plan(c, &mut t[..n], counts, tally);
 }
 
-fn count(group: usize, counts: &mut [u8; 65536], tally: &mut [usize; PLACES]) {
-    let many = cases::cases(group);
-    for number in 0..many {
+fn count(group: Group, counts: &mut [u8; 65536], tally: &mut [usize; PLACES]) {
+    for number in 0..group.cases() {
         try_case(Case { group, number }, counts, tally);
     }
 }
@@ -199,9 +180,9 @@ fn print_line(rt: &impl Print, tally: &[usize; PLACES]) -> io::Result<()> {
 
 pub fn report(rt: &impl Print, counts: &mut [u8; 65536]) -> io::Result<()> {
     let mut tally = [0usize; PLACES];
-    count(cases::TINY_Q2, counts, &mut tally);
-    count(cases::TINY_Q3, counts, &mut tally);
-    count(cases::SMALL_POOL, counts, &mut tally);
-    count(cases::WRONG_INPUTS, counts, &mut tally);
+    count(Group::TinyTwo, counts, &mut tally);
+    count(Group::TinyThree, counts, &mut tally);
+    count(Group::SmallPool, counts, &mut tally);
+    count(Group::WrongInputs, counts, &mut tally);
     print_line(rt, &tally)
 }

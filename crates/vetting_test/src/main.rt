@@ -11,10 +11,10 @@ mod tables;
 mod wrong;
 
 use arithmetic::Symbol;
-use cases::Case;
+use cases::{Case, Group};
 use numbers::{first_of, number_of, pack};
 use plans::Plan;
-use refusals::Verdict;
+use refusals::Refusal;
 use std::io;
 use std::num::wrapping_add_usize;
 use tables::Shape;
@@ -33,8 +33,8 @@ pub(crate) fn plan_of(s: Shape) -> Plan {
     }
 }
 
-pub(crate) fn said(verdict: Verdict) -> usize {
-    let code = refusals::verdict_code(verdict);
+pub(crate) fn said(verdict: Result<(), Refusal>) -> usize {
+    let code = refusals::code_of_result(&verdict);
     pack(wide16(code.number), wide16(code.first), wide16(code.second))
 }
 
@@ -42,38 +42,43 @@ pub(crate) fn said(verdict: Verdict) -> usize {
 pub(crate) fn looked_at(s: Shape, answer: usize) -> usize {
     let number = number_of(answer);
     if number == 0 || number == 7 {
-        return counting::place_of(s, answer);
+        counting::place_of(s, answer)
+    } else {
+        0
     }
-    0
 }
 
 // In the last group a table that no other check refuses is all zeros: relay 1 sees every reading of its cluster.
 fn leak(c: Case, t: &[Symbol], counts: &mut [u8; 65536]) -> usize {
-    if c.group == cases::WRONG_INPUTS {
-        return pack(7, 0, 1);
+    if c.group == Group::WrongInputs {
+        pack(7, 0, 1)
+    } else {
+        counting::leak_of(cases::shape(c), t, counts)
     }
-    counting::leak_of(cases::shape(c), t, counts)
 }
 
 // The answer of the second implementation.
 pub(crate) fn second_answer(c: Case, t: &[Symbol], counts: &mut [u8; 65536]) -> usize {
     let refused = expected::refusal(cases::shape(c), t);
     if refused != 0 {
-        return refused;
+        refused
+    } else {
+        leak(c, t, counts)
     }
-    leak(c, t, counts)
 }
 
 // The number of an answer; 7 is told apart by who learns something: a relay alone, 9 a relay with a coalition, 10 the server.
 fn class(answer: usize) -> usize {
     let number = number_of(answer);
     if number != 7 {
-        return number;
+        number
+    } else if answer % 65536 == 0 {
+        10
+    } else if first_of(answer) == 0 {
+        7
+    } else {
+        9
     }
-    if answer % 65536 == 0 {
-        return 10;
-    }
-    if first_of(answer) == 0 { 7 } else { 9 }
 }
 
 // Whether the vet says the same with its count, which is right, and whether a plan is accepted without its walk just where the vet accepts it.
@@ -82,8 +87,7 @@ fn says_again(s: Shape, t: &[Symbol], answer: usize) -> bool {
         return false;
     }
     let report = vetting::vet_counted(plan_of(s), t);
-    let verdict = report.verdict;
-    said(verdict) == answer && report.looked as usize == looked_at(s, answer)
+    said(report.verdict) == answer && report.looked as usize == looked_at(s, answer)
 }
 
 // The class of the answer, or 8 where the two answers differ.
@@ -92,9 +96,10 @@ fn compare(c: Case, t: &mut [Symbol], counts: &mut [u8; 65536]) -> usize {
     let s = cases::shape(c);
     let answer = said(vetting::vet(plan_of(s), t));
     if !says_again(s, t, answer) || answer != second_answer(c, t, counts) {
-        return 8;
+        8
+    } else {
+        class(answer)
     }
-    class(answer)
 }
 
 fn outcome(c: Case, counts: &mut [u8; 65536]) -> usize {
@@ -112,28 +117,16 @@ fn increase(tally: &mut [usize; 11], n: usize) {
     }
 }
 
-fn count(group: usize, counts: &mut [u8; 65536], tally: &mut [usize; 11], total: &mut [usize; 11]) {
-    let many = cases::cases(group);
-    for number in 0..many {
+fn count(group: Group, counts: &mut [u8; 65536], tally: &mut [usize; 11], total: &mut [usize; 11]) {
+    for number in 0..group.cases() {
         let n = outcome(Case { group, number }, counts);
         increase(tally, n);
         increase(total, n);
     }
 }
 
-fn name(group: usize) -> &'static str {
-    match group {
-        0 => "tiny plans, q 2",
-        1 => "tiny plans, q 3",
-        2 => "tiny plans, q 5",
-        3 => "small pool",
-        4 => "wrong inputs",
-        _ => "total",
-    }
-}
-
-fn print_line(rt: &impl Print, group: usize, tally: &[usize; 11]) -> io::Result<()> {
-    print!(rt; "{}: {} accepted, ", name(group), tally[0])?;
+fn print_line(rt: &impl Print, name: &str, tally: &[usize; 11]) -> io::Result<()> {
+    print!(rt; "{name}: {} accepted, ", tally[0])?;
     for number in [1usize, 2, 3, 4, 6] {
         print!(rt; "{} refused {number}, ", tally[number])?;
     }
@@ -144,22 +137,28 @@ fn print_line(rt: &impl Print, group: usize, tally: &[usize; 11]) -> io::Result<
 
 fn report(
     rt: &impl Print,
-    group: usize,
+    group: Group,
     counts: &mut [u8; 65536],
     total: &mut [usize; 11],
 ) -> io::Result<()> {
     let mut tally = [0usize; 11];
     count(group, counts, &mut tally, total);
-    print_line(rt, group, &tally)
+    print_line(rt, group.name(), &tally)
 }
 
 fn main(rt: HostRuntime) -> io::Result<()> {
     let mut counts = [0u8; 65536];
     let mut total = [0usize; 11];
-    for group in 0usize..5 {
+    for group in [
+        Group::TinyTwo,
+        Group::TinyThree,
+        Group::TinyFive,
+        Group::SmallPool,
+        Group::WrongInputs,
+    ] {
         report(&rt, group, &mut counts, &mut total)?;
     }
-    print_line(&rt, 5, &total)?;
+    print_line(&rt, "total", &total)?;
     figures::report(&rt)?;
     joint::report(&rt, &mut counts)
 }

@@ -4,7 +4,7 @@ use std::num::wrapping_sub_usize;
 use testing::{at, draw, mul_add, power, product, put, residue, seed, step};
 
 // The counts of a plan and its q, all as numbers of one type.
-#[derive(Clone, Copy)]
+#[derive(Clone, Copy, Debug, PartialEq, Eq)]
 pub struct Shape {
     pub clusters: usize,
     pub size: usize,

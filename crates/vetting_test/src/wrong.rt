@@ -2,71 +2,48 @@
 use crate::tables::{Shape, symbols};
 use arithmetic::Symbol;
 use std::num::wrapping_sub_usize;
-use testing::{draw, put, seed};
+use testing::{clip, draw, put, seed};
 
 // 16 shapes, 3 lengths, 15 moduli and 6 symbols.
 pub const CASES: usize = 4320;
 
-fn counts(clusters: usize, size: usize, limit: usize, rate: usize) -> Shape {
+// U, V, T and R. The first 4 are right. The product of 2^32 and 2^32 would wrap to 0.
+static COUNTS: [[usize; 4]; 16] = [
+    [2, 2, 1, 3],
+    [8, 2, 16, 16],
+    [1, 1, 0, 1],
+    [2, 8, 3, 16],
+    [0, 2, 0, 3],
+    [9, 1, 0, 3],
+    [2, 0, 0, 3],
+    [1, 9, 0, 3],
+    [3, 6, 0, 3],
+    [8, 8, 0, 1],
+    [2, 2, 5, 3],
+    [2, 2, 1, 0],
+    [2, 2, 1, 17],
+    [4294967296, 4294967296, 0, 1],
+    [17, 1, 0, 1],
+    [2, 2, 18446744073709551615, 3],
+];
+
+// The first 7 are primes, 3 of them of 32 bits. The last is the square of the largest prime of 16 bits.
+static MODULUS: [usize; 15] = [
+    2, 5, 257, 65521, 65537, 2147483647, 4294967291, 0, 1, 4, 9, 65535, 65536, 4294967295,
+    4293001441,
+];
+
+fn modulus(n: usize) -> usize {
+    MODULUS[clip(n, 14)]
+}
+
+pub fn shape(number: usize) -> Shape {
+    let [clusters, size, limit, rate] = COUNTS[number % 16];
     Shape {
         clusters,
         size,
         limit,
         rate,
-        q: 0,
-    }
-}
-
-// The first 4 are right. The product of 2^32 and 2^32 would wrap to 0.
-fn counts_of(n: usize) -> Shape {
-    match n {
-        0 => counts(2, 2, 1, 3),
-        1 => counts(8, 2, 16, 16),
-        2 => counts(1, 1, 0, 1),
-        3 => counts(2, 8, 3, 16),
-        4 => counts(0, 2, 0, 3),
-        5 => counts(9, 1, 0, 3),
-        6 => counts(2, 0, 0, 3),
-        7 => counts(1, 9, 0, 3),
-        8 => counts(3, 6, 0, 3),
-        9 => counts(8, 8, 0, 1),
-        10 => counts(2, 2, 5, 3),
-        11 => counts(2, 2, 1, 0),
-        12 => counts(2, 2, 1, 17),
-        13 => counts(4294967296, 4294967296, 0, 1),
-        14 => counts(17, 1, 0, 1),
-        _ => counts(2, 2, 18446744073709551615, 3),
-    }
-}
-
-// The first 7 are primes, 3 of them of 32 bits. The last is the square of the largest prime of 16 bits.
-fn modulus(n: usize) -> usize {
-    match n {
-        0 => 2,
-        1 => 5,
-        2 => 257,
-        3 => 65521,
-        4 => 65537,
-        5 => 2147483647,
-        6 => 4294967291,
-        7 => 0,
-        8 => 1,
-        9 => 4,
-        10 => 9,
-        11 => 65535,
-        12 => 65536,
-        13 => 4294967295,
-        _ => 4293001441,
-    }
-}
-
-pub fn shape(number: usize) -> Shape {
-    let c = counts_of(number % 16);
-    Shape {
-        clusters: c.clusters,
-        size: c.size,
-        limit: c.limit,
-        rate: c.rate,
         q: modulus(number / 48 % 15),
     }
 }

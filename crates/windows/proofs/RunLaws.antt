@@ -1,12 +1,11 @@
 -- Laws of runs: their sums, their largest totals and their last ones.
 use Prim.Native.Nat.{ℕ, zero, suc, ◌+◌, ◌-◌, ◌*◌, ◌^◌, ◌≤◌, ◌<◌}
-use mathlib.Core.Path.{◌≡◌, refl, sym, ap, ap₂, ◌∙◌}
+use mathlib.Core.Path.{◌≡◌, refl, sym, ap, ap₂, ◌∙◌, subst}
 use mathlib.Core.Bool.{Bool, true, false, cond, ◌&&◌}
 use mathlib.Core.List.{List, [], ◌∷◌, ◌++◌}
-use native.Mathlib.Nat.{not-suc-le-zero, le_of_suc-le-suc}
+use native.Mathlib.Nat.{not-suc-le-zero}
 use native.Mathlib.Numerals.{add-one}
 use native.Mathlib.Omega.{arith}
-use native.Mathlib.Decide.{ℕ_discrete}
 use lib.Dec.{T, eqb}
 use lib.IntN.{ℤ, pos, negsuc, neg_ℤ, ◌+ℤ◌, ◌-ℤ◌, nat_abs, +ℤ_assoc, +ℤ_idl, +ℤ_idr}
 use lib.ListN.{length, take, drop, set, get_or, replicate, drop_of_length-le, length-drop, length-append}
@@ -15,10 +14,11 @@ use lib.Signed.{mag, lt_z, nat_abs-le}
 use borrow.Author.Tests.{eqb-true, eq-eqb, ne_eqb}
 use mir.Syntax.{w32, w64}
 use mir.Val.{SFits, to_z, of_z}
+use mir.Facts.{to_z-of_z}
 use Rattle.lists.proofs.Searches.{T_and, T→true, true→T}
 use Rattle.lists.specs.Lists.{All}
 use Rattle.integers.proofs.Parts.{one-part, same_parts, abs-parts, sum-parts, difference-parts, less-true, order-parts, neg-up, neg-dn}
-use Rattle.integers.proofs.Bits.{back, fits-parts}
+use Rattle.integers.proofs.Bits.{fits-parts, widened}
 use Rattle.windows.specs.Runs.{sum_of, larger, largest_from, largest_of, last_of, same, all_zero}
 use Rattle.windows.specs.Windows.{max_span, IsTotal}
 
@@ -63,6 +63,27 @@ difference-bound s t k h l =
 pub bound-fits : (z : ℤ) → nat_abs z ≤ (max_span + 2) * 2 ^ 31 → SFits w64 z
 bound-fits z h = fits-parts w64 z (omega (arith, abs-parts z)) (omega (arith, abs-parts z))
 
+-- the sum of the totals passed, and the next total as the machine adds it
+pub record Added (run : List ℤ) (k : ℕ) (next : ℤ) : Type 0 where
+  pub fits : SFits w64 next
+  pub is : to_z w64 (of_z w64 next) ≡ sum_of (take (k + 1) run)
+  pub small : nat_abs (to_z w64 (of_z w64 next)) ≤ (k + 1) * 2 ^ 31
+
+pub added : (run : List ℤ) (k : ℕ) (sum : ℤ) → k < length run → k < max_span → mag (get_or run k (pos 0)) < 2 ^ 31 → sum ≡ sum_of (take k run)
+    → nat_abs sum ≤ k * 2 ^ 31 → Added run k (sum +ℤ to_z w64 (of_z w64 (to_z w32 (of_z w32 (get_or run k (pos 0))))))
+added run k sum h few fit is small =
+    let here : ℤ = get_or run k (pos 0) in
+    let next : ℤ = sum +ℤ to_z w64 (of_z w64 (to_z w32 (of_z w32 here))) in
+    let plain : next ≡ sum +ℤ here = ap (λ (z : ℤ). sum +ℤ z) (widened {z = here} (record { sfits = fit })) in
+    let low : nat_abs next ≤ (k + 1) * 2 ^ 31 = subst (λ (z : ℤ). nat_abs z ≤ (k + 1) * 2 ^ 31) (sym plain) (sum_bound sum here k small fit) in
+    let fits : SFits w64 next = bound-fits next (omega arith) in
+    let kept : to_z w64 (of_z w64 next) ≡ next = to_z-of_z fits in
+    record {
+      fits = fits;
+      is = kept ∙ plain ∙ ap (λ (z : ℤ). z +ℤ here) is ∙ sym (sum-next run k h);
+      small = subst (λ (z : ℤ). nat_abs z ≤ (k + 1) * 2 ^ 31) (sym kept) low;
+    }
+
 -- and so has every number of a run of totals
 total_size : (t : ℤ) → IsTotal t → nat_abs t ≤ 2 ^ 31
 total_size t (low, high) =
@@ -88,24 +109,10 @@ pub same_refl : (a : ℤ) → same a a ≡ true
 same_refl (pos a) = eq-eqb a a refl
 same_refl (negsuc a) = eq-eqb a a refl
 
--- equal bits, equal numbers
-pub same_bits : (a b : ℤ) → mag a < 2 ^ 63 → mag b < 2 ^ 63 → eqb (of_z w64 a) (of_z w64 b) ≡ same a b
-same_bits (pos a) (pos b) h l = refl
-same_bits (pos a) (negsuc b) h l = ne_eqb a (2 ^ 64 - suc b) (λ e. omega arith)
-same_bits (negsuc a) (pos b) h l = ne_eqb (2 ^ 64 - suc a) b (λ e. omega arith)
-same_bits (negsuc a) (negsuc b) h l = go (ℕ_discrete a b)
-  where
-    go : Dec (a ≡ b) → eqb (2 ^ 64 - suc a) (2 ^ 64 - suc b) ≡ eqb a b
-    go (yes e) = rw (eq-eqb a b e) (eq-eqb (2 ^ 64 - suc a) (2 ^ 64 - suc b) (omega arith))
-    go (no n) = rw (ne_eqb a b n) (ne_eqb (2 ^ 64 - suc a) (2 ^ 64 - suc b) (λ e. n (omega arith)))
-
 -- the bits of a total tell whether it is 0
-pub bits-zero : (t : ℤ) → mag t < 2 ^ 31 → of_z w32 t ≡ 0 → same t (pos 0) ≡ true
-bits-zero t h e = let z : t ≡ pos 0 = sym (back w32 t h) ∙ ap (to_z w32) e in ap (λ (x : ℤ). same x (pos 0)) z
-
-pub bits-not-zero : (t : ℤ) → (of_z w32 t ≡ 0 → ⊥) → same t (pos 0) ≡ false
-bits-not-zero (pos n) f = ne_eqb n 0 f
-bits-not-zero (negsuc n) f = refl
+pub bits-zero : (t : ℤ) → mag t < 2 ^ 31 → eqb (of_z w32 t) 0 ≡ same t (pos 0)
+bits-zero (pos n) h = refl
+bits-zero (negsuc n) h = ne_eqb (2 ^ 32 - suc n) 0 (λ e. omega arith)
 
 pub zero-step : (l : List ℤ) (k : ℕ) → k < length l → all_zero (drop k l) ≡ (same (get_or l k (pos 0)) (pos 0) && all_zero (drop (k + 1) l))
 unfolding all_zero
@@ -141,17 +148,15 @@ unfolding largest_from
 largest-newest a [] t = refl
 largest-newest a (x ∷ run) t = largest-newest (larger a x) run t
 
-pub largest-first : (l : List ℤ) → 0 < length l → largest_of (take 1 l) ≡ get_or l 0 (pos 0)
-unfolding largest_from
-largest-first [] h = absurd (not-suc-le-zero h)
-largest-first (t ∷ l) h = refl
+pub largest-next : (a : ℤ) (run : List ℤ) (k : ℕ) → k < length run
+    → largest_from a (take (k + 1) run) ≡ larger (largest_from a (take k run)) (get_or run k (pos 0))
+largest-next a run k h = rw (add-one k, take-suc run k (pos 0) h) (largest-newest a (take k run) (get_or run k (pos 0)))
 
-pub largest-next : (l : List ℤ) (k : ℕ) → 0 < k → k < length l → largest_of (take (k + 1) l) ≡ larger (largest_of (take k l)) (get_or l k (pos 0))
-largest-next [] k p h = absurd (not-suc-le-zero h)
-largest-next (x ∷ l) zero p h = absurd (not-suc-le-zero p)
-largest-next (x ∷ l) (suc k) p h =
-    rw (add-one (suc k))
-    (ap (largest_from x) (take-suc l k (pos 0) (le_of_suc-le-suc h)) ∙ largest-newest x (take k l) (get_or l k (pos 0)))
+-- the first of a run, and the rest
+pub largest-rest : (l : List ℤ) (n : ℕ) → 0 < length l → 0 < n → largest_from (get_or l 0 (pos 0)) (take (n - 1) (drop 1 l)) ≡ largest_of (take n l)
+largest-rest l zero h p = absurd (not-suc-le-zero p)
+largest-rest [] (suc n) h p = absurd (not-suc-le-zero h)
+largest-rest (t ∷ l) (suc n) h p = let less : suc n - 1 ≡ n = omega arith in ap (λ (k : ℕ). largest_from t (take k l)) less
 
 -- ---- all one place forward
 
@@ -159,34 +164,38 @@ largest-next (x ∷ l) (suc k) p h =
 abbrev pub moved_to : ℕ → List ℤ → List ℤ
 moved_to k l = take k (drop 1 l) ++ drop k l
 
-module _ (l : List ℤ) (k : ℕ) (h : k + 1 ≤ length l) where
-  moved-size : length (take k (drop 1 l)) ≡ k
-  moved-size = length-take-le k (drop 1 l) (omega (arith, length-drop 1 l))
+module _ (l : List ℤ) (j k : ℕ) (next : j + 1 ≡ k) (h : k ≤ length l) where
+  moved-size : length (take j (drop 1 l)) ≡ j
+  moved-size = length-take-le j (drop 1 l) (omega (arith, length-drop 1 l))
 
   -- the total after the moved ones' next place
-  pub moved-reads : get_or (moved_to k l) (k + 1) (pos 0) ≡ get_or l (k + 1) (pos 0)
+  pub moved-reads : get_or (moved_to j l) k (pos 0) ≡ get_or l k (pos 0)
   moved-reads =
-      ap (λ (n : ℕ). get_or (moved_to k l) (n + 1) (pos 0)) (sym moved-size)
-      ∙ get_or-append-add (take k (drop 1 l)) (drop k l) 1 (pos 0)
-      ∙ get_or-drop k l 1 (pos 0)
+      let place : k ≡ length (take j (drop 1 l)) + 1 = omega (arith, moved-size) in
+      ap (λ (n : ℕ). get_or (moved_to j l) n (pos 0)) place
+      ∙ get_or-append-add (take j (drop 1 l)) (drop j l) 1 (pos 0)
+      ∙ get_or-drop j l 1 (pos 0)
+      ∙ ap (λ (n : ℕ). get_or l n (pos 0)) next
 
   -- and any total in that place
-  pub moved-set : (t : ℤ) → set (moved_to k l) k t ≡ (take k (drop 1 l) ++ (t ∷ [])) ++ drop (k + 1) l
+  pub moved-set : (t : ℤ) → set (moved_to j l) j t ≡ (take j (drop 1 l) ++ (t ∷ [])) ++ drop k l
   moved-set t =
-      ap (λ (r : List ℤ). set (take k (drop 1 l) ++ r) k t) (drop-cons l k (pos 0) (omega arith))
-      ∙ set_at (take k (drop 1 l)) (get_or l k (pos 0)) (drop (suc k) l) t k moved-size
-      ∙ sym (append_snoc (take k (drop 1 l)) t (drop (suc k) l))
-      ∙ ap (λ (n : ℕ). (take k (drop 1 l) ++ (t ∷ [])) ++ drop n l) (sym (add-one k))
+      let place : suc j ≡ k = omega arith in
+      ap (λ (r : List ℤ). set (take j (drop 1 l) ++ r) j t) (drop-cons l j (pos 0) (omega arith))
+      ∙ set_at (take j (drop 1 l)) (get_or l j (pos 0)) (drop (suc j) l) t j moved-size
+      ∙ sym (append_snoc (take j (drop 1 l)) t (drop (suc j) l))
+      ∙ ap (λ (n : ℕ). (take j (drop 1 l) ++ (t ∷ [])) ++ drop n l) place
 
--- one more has moved
-pub moved-next : (l : List ℤ) (k : ℕ) → k + 1 < length l → set (moved_to k l) k (get_or l (k + 1) (pos 0)) ≡ moved_to (k + 1) l
-moved-next l k h =
-    let place : 1 + k ≡ k + 1 = omega arith in
-    let next : take (k + 1) (drop 1 l) ≡ take k (drop 1 l) ++ (get_or l (k + 1) (pos 0) ∷ [])
-    = ap (λ (n : ℕ). take n (drop 1 l)) (add-one k)
-    ∙ take-suc (drop 1 l) k (pos 0) (omega (arith, length-drop 1 l))
-    ∙ ap (λ (t : ℤ). take k (drop 1 l) ++ (t ∷ [])) (get_or-drop 1 l k (pos 0) ∙ ap (λ (n : ℕ). get_or l n (pos 0)) place) in
-    moved-set l k (omega arith) (get_or l (k + 1) (pos 0)) ∙ ap (λ (r : List ℤ). r ++ drop (k + 1) l) (sym next)
+  -- one more has moved
+  pub moved-next : k < length l → set (moved_to j l) j (get_or l k (pos 0)) ≡ moved_to k l
+  moved-next less =
+      let place : suc j ≡ k = omega arith in
+      let same : 1 + j ≡ k = omega arith in
+      let more : take k (drop 1 l) ≡ take j (drop 1 l) ++ (get_or l k (pos 0) ∷ [])
+      = ap (λ (n : ℕ). take n (drop 1 l)) (sym place)
+      ∙ take-suc (drop 1 l) j (pos 0) (omega (arith, length-drop 1 l))
+      ∙ ap (λ (t : ℤ). take j (drop 1 l) ++ (t ∷ [])) (get_or-drop 1 l j (pos 0) ∙ ap (λ (n : ℕ). get_or l n (pos 0)) same) in
+      moved-set (get_or l k (pos 0)) ∙ ap (λ (r : List ℤ). r ++ drop k l) (sym more)
 
 -- those that are left when the first of n + 1 goes
 pub rest_of : (l : List ℤ) (n : ℕ) → take n (drop 1 l) ≡ drop 1 (take (n + 1) l)

@@ -49,7 +49,7 @@ is_window W = span_fits W.span && leb W.held W.span && all_zero (drop W.held W.t
 abbrev pub open_code : ℕ → Code
 open_code n = first_of ((not (span_fits n), code 17) ∷ [])
 
--- a refused opening hands back a window of nothing but zeros
+-- the window that is opened; nothing but zeros stand for it where the opening is refused
 abbrev pub opened_window : ℕ → Window
 opened_window n = if_accepted (open_code n) (window_of n []) (window_of 0 [])
 

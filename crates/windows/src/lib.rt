@@ -4,11 +4,10 @@
 mod places;
 mod rolling;
 
-use refusals::Verdict;
 pub use rolling::push_total;
 
 // What is kept of a run of totals: how many are asked for, how many are held, those, oldest first, with 0 past them, and their sum.
-#[derive(Clone, Copy)]
+#[derive(Clone, Copy, Debug, PartialEq, Eq)]
 pub struct Window {
     pub span: usize,
     pub held: usize,
@@ -16,31 +15,9 @@ pub struct Window {
     pub sum: i64,
 }
 
-// The answer to a step, and the window after it.
-#[derive(Clone, Copy)]
-pub struct Step {
-    pub verdict: Verdict,
-    pub window: Window,
-}
-
-// The answer to a step on lent totals, and what the window has beside them after it.
-#[derive(Clone, Copy)]
-pub struct Pushed {
-    pub verdict: Verdict,
+// What a window has beside its totals: how many are held, and their sum.
+#[derive(Clone, Copy, Debug, PartialEq, Eq)]
+pub struct Tally {
     pub held: usize,
     pub sum: i64,
-}
-
-// The answer, and the sum, which is 0 where it is refused.
-#[derive(Clone, Copy)]
-pub struct GivenSum {
-    pub verdict: Verdict,
-    pub value: i64,
-}
-
-// The answer, and the largest, which is 0 where it is refused.
-#[derive(Clone, Copy)]
-pub struct GivenLargest {
-    pub verdict: Verdict,
-    pub value: i32,
 }

@@ -1,20 +1,18 @@
 // Windows: opened, pushed into, and asked.
-ghost use Rattle.std.specs.Prelude.{◌≡◌, true, [], ◌*◌, ◌^◌, ◌≤◌, pos, nat_abs, length, replicate};
-ghost use Rattle.refusals.specs.Codes.{verdict_code};
+ghost use Rattle.std.specs.Prelude.{◌≡◌, true, [], ◌*◌, ◌^◌, ◌≤◌, pos, nat_abs, replicate};
+ghost use Rattle.std.specs.Result.{result_unwrap_or};
+ghost use Rattle.refusals.specs.Codes.{code_of_result};
 ghost use Rattle.windows.specs.Windows.{max_span, span_fits, is_window, window_of, open_code, opened_window, window_code, pushed_window};
 ghost use Rattle.windows.specs.Windows.{given_sum, largest_code, given_largest};
 
 use crate::places::{all_zero, largest_of, shift, sum_of};
-use crate::{GivenLargest, GivenSum, Pushed, Step, Window};
-use refusals::{Refusal, Verdict};
+use crate::{Tally, Window};
+use refusals::{Refusal, Step, refuse_unless};
 
 fn span_fits(span: usize) -> bool
     ensures { result ≡ span_fits span }
 {
-    if span < 1 {
-        return false;
-    }
-    span <= Window::MAX_SPAN
+    1 <= span && span <= Window::MAX_SPAN
 }
 
 fn no_totals() -> [i32; Window::MAX_SPAN]
@@ -25,26 +23,11 @@ fn no_totals() -> [i32; Window::MAX_SPAN]
 
 // Whether a run leaves the window of these parts. Then the sum is small, so that one total more or less cannot overflow it.
 fn is_left(span: usize, held: usize, sum: i64, totals: &[i32; Window::MAX_SPAN]) -> bool
-    requires { length totals.now ≡ max_span }
     ensures is { result ≡ is_window (record { span = span; held = held; totals = totals.now; sum = sum }) }
     ensures small { result ≡ true → nat_abs sum ≤ max_span * 2 ^ 31 }
 {
-    if !span_fits(span) {
-        return false;
-    }
-    if held > span {
-        return false;
-    }
-    if !all_zero(totals, held) {
-        return false;
-    }
-    sum_of(totals, held) == sum
+    span_fits(span) && held <= span && all_zero(totals, held) && sum_of(totals, held) == sum
 }
-
-// An array by value has as many places as its type says; of a lent one the proof has to be told. No instruction is left of it.
-fn know_places(totals: [i32; Window::MAX_SPAN])
-    ensures { length totals ≡ max_span }
-{}
 
 // One total more into a window whose totals are lent, so that none is copied; where there is no room, the oldest makes it.
 pub fn push_total(
@@ -53,34 +36,27 @@ pub fn push_total(
     held: usize,
     sum: i64,
     total: i32,
-) -> Pushed
-    ensures code { verdict_code result.verdict ≡ window_code (record { span = span; held = held; totals = totals.old; sum = sum }) }
-    ensures window { record { span = span; held = result.held; totals = totals.new; sum = result.sum }
+) -> Step<Tally>
+    ensures code { code_of_result result.answer ≡ window_code (record { span = span; held = held; totals = totals.old; sum = sum }) }
+    ensures window { record { span = span; held = result.state.held; totals = totals.new; sum = result.state.sum }
         ≡ pushed_window (record { span = span; held = held; totals = totals.old; sum = sum }) total }
 {
-    know_places(*totals);
     if !is_left(span, held, sum, totals) {
-        return Pushed {
-            verdict: Verdict::Refused(Refusal::BadWindow),
-            held,
-            sum,
-        };
+        return Step::refused(Refusal::BadWindow, Tally { held, sum });
     }
     if held < span {
         totals[held] = total;
-        return Pushed {
-            verdict: Verdict::Accepted,
+        return Step::made(Tally {
             held: held + 1,
             sum: sum + total as i64,
-        };
+        });
     }
     let oldest = totals[0];
     shift(totals, held, total);
-    Pushed {
-        verdict: Verdict::Accepted,
+    Step::made(Tally {
         held,
         sum: sum - oldest as i64 + total as i64,
-    }
+    })
 }
 
 impl Window {
@@ -90,92 +66,64 @@ impl Window {
     fn empty(span: usize) -> Window
         ensures { result ≡ window_of span [] }
     {
-        let totals = no_totals();
         Window {
             span,
             held: 0,
-            totals,
+            totals: no_totals(),
             sum: 0,
         }
     }
 
     // A window over the last `span` totals. The promise also fixes the bound that stands above by name.
-    pub fn open(span: usize) -> Step
-        ensures code { verdict_code result.verdict ≡ open_code span }
-        ensures window { result.window ≡ opened_window span }
+    pub fn open(span: usize) -> Result<Window, Refusal>
+        ensures code { code_of_result result ≡ open_code span }
+        ensures window { result_unwrap_or result (window_of 0 []) ≡ opened_window span }
         ensures longest { Window.MAX_SPAN ≡ max_span }
     {
-        if !span_fits(span) {
-            return Step {
-                verdict: Verdict::Refused(Refusal::BadWindow),
-                window: Window::empty(0),
-            };
-        }
-        Step {
-            verdict: Verdict::Accepted,
-            window: Window::empty(span),
-        }
+        refuse_unless(span_fits(span), Refusal::BadWindow)?;
+        Ok(Window::empty(span))
     }
 
     // One total more; where there is no room, the oldest makes it. A window that is refused is handed back.
-    pub fn push(mut self, total: i32) -> Step
-        ensures code { verdict_code result.verdict ≡ window_code self }
-        ensures window { result.window ≡ pushed_window self total }
+    pub fn push(mut self, total: i32) -> Step<Window>
+        ensures code { code_of_result result.answer ≡ window_code self }
+        ensures window { result.state ≡ pushed_window self total }
     {
-        let span = self.span;
-        let held = self.held;
-        let sum = self.sum;
-        let next = push_total(&mut self.totals, span, held, sum, total);
-        let verdict = next.verdict;
-        let more = next.sum;
-        self.held = next.held;
-        self.sum = more;
+        let next = push_total(&mut self.totals, self.span, self.held, self.sum, total);
+        self.held = next.state.held;
+        self.sum = next.state.sum;
         Step {
-            verdict,
-            window: self,
+            answer: next.answer,
+            state: self,
         }
+    }
+
+    // Whether some run of totals leaves it: 17.
+    fn check_left(self) -> Result<(), Refusal>
+        ensures { code_of_result result ≡ window_code self }
+    {
+        refuse_unless(
+            is_left(self.span, self.held, self.sum, &self.totals),
+            Refusal::BadWindow,
+        )
     }
 
     // The sum of the totals that are held.
-    pub fn sum(self) -> GivenSum
-        ensures code { verdict_code result.verdict ≡ window_code self }
-        ensures value { result.value ≡ given_sum self }
+    pub fn sum(self) -> Result<i64, Refusal>
+        ensures code { code_of_result result ≡ window_code self }
+        ensures value { result_unwrap_or result (pos 0) ≡ given_sum self }
     {
-        if !is_left(self.span, self.held, self.sum, &self.totals) {
-            return GivenSum {
-                verdict: Verdict::Refused(Refusal::BadWindow),
-                value: 0,
-            };
-        }
-        let value = self.sum;
-        GivenSum {
-            verdict: Verdict::Accepted,
-            value,
-        }
+        self.check_left()?;
+        Ok(self.sum)
     }
 
     // The largest of the totals that are held.
-    pub fn largest(self) -> GivenLargest
-        ensures code { verdict_code result.verdict ≡ largest_code self }
-        ensures value { result.value ≡ given_largest self }
+    pub fn largest(self) -> Result<i32, Refusal>
+        ensures code { code_of_result result ≡ largest_code self }
+        ensures value { result_unwrap_or result (pos 0) ≡ given_largest self }
     {
-        if !is_left(self.span, self.held, self.sum, &self.totals) {
-            return GivenLargest {
-                verdict: Verdict::Refused(Refusal::BadWindow),
-                value: 0,
-            };
-        }
-        let held = self.held;
-        if held == 0 {
-            return GivenLargest {
-                verdict: Verdict::Refused(Refusal::NotFull),
-                value: 0,
-            };
-        }
-        let value = largest_of(&self.totals, held);
-        GivenLargest {
-            verdict: Verdict::Accepted,
-            value,
-        }
+        self.check_left()?;
+        refuse_unless(self.held != 0, Refusal::NotFull)?;
+        Ok(largest_of(&self.totals, self.held))
     }
 }

@@ -48,40 +48,18 @@ fn totals(run: &[Symbol], many: usize, n: usize) -> [i32; Window::MAX_SPAN] {
     let mut all = [0; Window::MAX_SPAN];
     for k in 0..Window::MAX_SPAN {
         if k < last {
-            let t = total(at(run, wrapping_add_usize(from, k)));
-            all[k] = t;
+            all[k] = total(at(run, wrapping_add_usize(from, k)));
         }
     }
     all
 }
 
 pub fn window(run: &[Symbol], many: usize, n: usize) -> Window {
-    let all = totals(run, many, n);
-    let s = sum(run, many, n, 0, 0);
+    let last = totals(run, many, n);
     Window {
         span: n,
         held: held(many, n),
-        totals: all,
-        sum: s,
+        totals: last,
+        sum: sum(run, many, n, 0, 0),
     }
-}
-
-fn same_totals(a: Window, b: Window) -> bool {
-    for k in 0..Window::MAX_SPAN {
-        let s = a.totals[k];
-        let t = b.totals[k];
-        if s != t {
-            return false;
-        }
-    }
-    true
-}
-
-pub fn same(a: Window, b: Window) -> bool {
-    let s = a.sum;
-    let t = b.sum;
-    if a.span != b.span || a.held != b.held || s != t {
-        return false;
-    }
-    same_totals(a, b)
 }

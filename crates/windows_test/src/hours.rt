@@ -49,14 +49,12 @@ pub fn shown(kept: usize, i: usize) -> i32 {
     let first = [narrow(residue(wrapping_add_usize(kept, OFF + mask), PRIME))];
     let second = [narrow((PRIME - mask) % PRIME)];
     let number = narrow(i);
-    let opening = ServerRound::open(RELAYS, USERS, Q, 1, number);
-    let round = opening.round;
-    let one = round.count(1, number, &first);
-    let after = one.round;
-    let two = after.count(2, number, &second);
-    let full = two.round;
     let mut total = [NOT_GIVEN];
-    full.give(&mut total);
+    if let Ok(round) = ServerRound::open(RELAYS, USERS, Q, 1, number) {
+        let one = round.count(1, number, &first);
+        let two = one.state.count(2, number, &second);
+        two.state.give(&mut total);
+    }
     let plan = Plan {
         clusters: RELAYS,
         size: USERS,
@@ -65,6 +63,8 @@ pub fn shown(kept: usize, i: usize) -> i32 {
         q: Q,
     };
     let mut seen = [UNSHOWN];
-    show_totals(plan, CAP, 1, &total, &mut seen);
-    seen[0]
+    match show_totals(plan, CAP, 1, &total, &mut seen) {
+        Ok(()) => seen[0],
+        Err(_) => UNSHOWN,
+    }
 }

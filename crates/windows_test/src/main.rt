@@ -11,38 +11,62 @@ mod runs;
 mod spoiled;
 
 use numbers::DIFFER;
+use runs::Play;
 use std::io;
-use std::num::wrapping_add_usize;
-use testing::{clip, print_counts};
+use testing::report;
 
-// The last is no kind of its own: runs, with a mistake in what is expected.
-fn outcome(kind: usize, case: usize) -> usize {
-    match kind {
-        0 => calls::opened(case),
-        1 => runs::played(case, runs::RIGHT),
-        2 => runs::played(case, runs::FED),
-        3 => calls::pushed(case),
-        4 => calls::asked(case),
-        _ => runs::played(case, 1 + case % 2),
-    }
+fn whole_runs(rt: &impl Print) -> io::Result<()> {
+    report(
+        rt,
+        "openings:      ",
+        "answered",
+        DIFFER,
+        0..1000,
+        calls::opened,
+    )?;
+    report(
+        rt,
+        "runs:          ",
+        "answered",
+        DIFFER,
+        50000..70000,
+        |case| { runs::played(case, Play::Right) },
+    )?;
+    report(rt, "hours:         ", "answered", DIFFER, 0..96, |case| {
+        runs::played(case, Play::Fed)
+    })
 }
 
-fn report(rt: &impl Print, name: &str, kind: usize, from: usize, to: usize) -> io::Result<()> {
-    let mut tally = [0usize; DIFFER + 1];
-    for case in from..to {
-        let n = clip(outcome(kind, case), DIFFER);
-        tally[n] = wrapping_add_usize(tally[n], 1);
-    }
-    print!(rt; "{name}")?;
-    print_counts(rt, "answered", &tally)
+// Of the last, a mistake is in what is expected.
+fn single_steps(rt: &impl Print) -> io::Result<()> {
+    report(
+        rt,
+        "totals:        ",
+        "answered",
+        DIFFER,
+        100000..140000,
+        calls::pushed,
+    )?;
+    report(
+        rt,
+        "figures:       ",
+        "answered",
+        DIFFER,
+        200000..240000,
+        calls::asked,
+    )?;
+    report(
+        rt,
+        "mistaken runs: ",
+        "answered",
+        DIFFER,
+        250000..250200,
+        |case| { runs::played(case, Play::mistaken(case)) },
+    )
 }
 
 // No two kinds have a case in common but those of openings and of hours, which draw nothing.
 fn main(rt: HostRuntime) -> io::Result<()> {
-    report(&rt, "openings:      ", 0, 0, 1000)?;
-    report(&rt, "runs:          ", 1, 50000, 70000)?;
-    report(&rt, "hours:         ", 2, 0, 96)?;
-    report(&rt, "totals:        ", 3, 100000, 140000)?;
-    report(&rt, "figures:       ", 4, 200000, 240000)?;
-    report(&rt, "mistaken runs: ", 5, 250000, 250200)
+    whole_runs(&rt)?;
+    single_steps(&rt)
 }

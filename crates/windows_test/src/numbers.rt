@@ -2,7 +2,7 @@
 // to show.
 ghost use Rattle.std.specs.Prelude.{◌≡◌, ◌%◌, ◌^◌, pos, ◌-ℤ◌};
 
-use refusals::Verdict;
+use refusals::{Refusal, code_of_result};
 use testing::{draw, over, state};
 
 // A total t is kept as t + HALF, below WORD.
@@ -37,8 +37,8 @@ pub fn total(u: usize) -> i32 {
 }
 
 // A number that no answer has where a detail is not 0: windows give none.
-pub fn number_of(verdict: Verdict) -> usize {
-    let code = refusals::verdict_code(verdict);
+pub fn number_of<T>(answer: &Result<T, Refusal>) -> usize {
+    let code = code_of_result(answer);
     over(
         (code.first | code.second) == 0,
         code.number as usize,

@@ -1,16 +1,31 @@
 // Runs of totals, from an opening on: after each total the window and both figures are held to what the whole run gives.
 use crate::afresh::LONGEST;
-use crate::numbers::{DIFFER, HALF, WORD, number_of, pick, total};
+use crate::numbers::{DIFFER, HALF, WORD, pick, total};
 use crate::{afresh, hours};
 use arithmetic::Symbol;
 use std::num::wrapping_add_usize;
 use testing::{at, clip, over, product, put, seed, state};
 use windows::Window;
 
-// How a run is played: as it is, with a mistake (1 and 2), or through rounds of a server, whose totals are shown.
-pub const RIGHT: usize = 0;
+// How a run is played: as it is, with a mistake in the last digit of each total or in the span, or through rounds of a server, whose totals are shown.
+#[derive(Clone, Copy, Debug, PartialEq, Eq)]
+pub enum Play {
+    Right,
+    OtherDigit,
+    LongerSpan,
+    Fed,
+}
 
-pub const FED: usize = 3;
+impl Play {
+    // The mistake of a case: either in turn.
+    pub fn mistaken(case: usize) -> Play {
+        if case % 2 == 0 {
+            Play::OtherDigit
+        } else {
+            Play::LongerSpan
+        }
+    }
+}
 
 // Often a quarter of an hour, one hour or a whole day.
 pub fn span(x: usize) -> usize {
@@ -41,61 +56,51 @@ fn kept(x: usize, i: usize) -> usize {
     }
 }
 
-pub fn fill(run: &mut [Symbol], x: usize, how: usize) {
+pub fn fill(run: &mut [Symbol], x: usize, how: Play) {
     for i in 0..run.len() {
-        put(run, i, over(how == FED, hours::load(i), kept(x, i)));
+        put(run, i, over(how == Play::Fed, hours::load(i), kept(x, i)));
     }
 }
 
 // Whether the window and its figures are those of the run.
 fn agrees(window: Window, run: &[Symbol], many: usize, n: usize) -> bool {
-    let sum = window.sum();
-    let largest = window.largest();
-    let verdict = sum.verdict;
-    let second = largest.verdict;
-    let s = sum.value;
-    let l = largest.value;
-    let a = afresh::sum(run, many, n, 0, 0);
-    let b = afresh::largest(run, many, n);
-    if number_of(verdict) != 0 || number_of(second) != 0 || s != a || l != b {
-        return false;
-    }
-    afresh::same(window, afresh::window(run, many, n))
+    window.sum() == Ok(afresh::sum(run, many, n, 0, 0))
+        && window.largest() == Ok(afresh::largest(run, many, n))
+        && window == afresh::window(run, many, n)
 }
 
 // A mistake is one in the last digit of a total, or a span that is one longer; it shows in the window if not in the figures.
-fn given(run: &[Symbol], i: usize, how: usize) -> i32 {
+fn given(run: &[Symbol], i: usize, how: Play) -> i32 {
     let u = at(run, i);
-    if how == FED {
-        return hours::shown(u, i);
+    if how == Play::Fed {
+        hours::shown(u, i)
+    } else {
+        total(u ^ over(how == Play::OtherDigit, 1, 0))
     }
-    total(u ^ over(how == 1, 1, 0))
 }
 
 // Those through rounds have every span in turn.
-pub fn played(case: usize, how: usize) -> usize {
+pub fn played(case: usize, how: Play) -> usize {
     let x = seed(case);
-    let n = over(how == FED, case % Window::MAX_SPAN + 1, span(x));
-    let many = over(how == RIGHT, length(x, n), LONGEST);
-    let more = over(how == 2, 1, 0);
+    let n = over(how == Play::Fed, case % Window::MAX_SPAN + 1, span(x));
+    let many = over(how == Play::Right, length(x, n), LONGEST);
+    let more = over(how == Play::LongerSpan, 1, 0);
     let mut run = [0 as Symbol; LONGEST];
     fill(&mut run, x, how);
-    let opening = Window::open(n);
-    let verdict = opening.verdict;
-    let mut window = opening.window;
-    let mut number = number_of(verdict);
+    let Ok(mut window) = Window::open(n) else {
+        return DIFFER;
+    };
+    let mut number = 0;
     for i in 0..many {
         let step = window.push(given(&run, i, how));
-        let answer = step.verdict;
-        window = step.window;
+        window = step.state;
         let right = agrees(
             window,
             &run,
             wrapping_add_usize(i, 1),
             wrapping_add_usize(n, more),
         );
-        let good = right && number_of(answer) == 0;
-        number = over(good, number, DIFFER);
+        number = over(right && step.answer.is_ok(), number, DIFFER);
     }
     number
 }

@@ -1,20 +1,5 @@
-use mathlib.Core.Path.{◌≡◌}
-use Rattle.refusals.specs.declared.Code.{Code}
-use Rattle.refusals.specs.Codes.{accepted}
-use Rattle.masking.specs.Blocks.{block_code}
-use Rattle.refusals.proofs.Answers.{passes}
 use Rattle.masking.proofs.BlockLaws.{writable}
 use Rattle.masking.proofs.upload.Goals as goal
-use Rattle.masking.proofs.upload.Goals.{Start, Then-is_accepted}
-
--- the code of the call
-abbrev code : Start → Code
-code s = block_code s.args.q s.args.length s.args.readings.now s.args.key.now s.args.out.now
-
-told : (c : Then-is_accepted) → accepted ≡ code (goal.at.Then-is_accepted c).Start
-told c = passes c.check_blocks-verdict.result c.check_blocks-verdict.ensures c.is_accepted.ensures c.if-is_accepted.true
 
 pub write_upload-requires : goal.write_upload-requires
-write_upload-requires c =
-    let a = c.args in
-    writable a.q a.length a.readings.now a.key.now a.out.now (told (goal.at.write_upload-requires c).Then-is_accepted)
+write_upload-requires c = let a = c.args in writable a.q a.length a.readings.now a.key.now a.out.now c.in_ok-check_blocks.ensures

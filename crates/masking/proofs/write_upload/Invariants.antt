@@ -1,6 +1,4 @@
 -- The invariant: the sums written are those of the positions passed.
-use Prim.Native.Nat.{◌-◌}
-use lib.ListN.{length}
 use Rattle.residues.specs.Field.{sum_of}
 use Rattle.lists.specs.Lists.{at}
 use Rattle.lists.proofs.Filling.{Filling}
@@ -8,6 +6,3 @@ use Rattle.masking.proofs.write_upload.Given as goal
 
 abbrev pub invariant-loop-p : goal.invariant-loop-p
 invariant-loop-p l = Filling (λ k. sum_of l.q (at l.readings k) (at l.key k)) l.initial.out l.out l.p
-
-abbrev pub decreases-loop-p : goal.decreases-loop-p
-decreases-loop-p l = length l.out - l.p

@@ -1,4 +1,4 @@
-use Rattle.std.proofs.Common.{ℕ, ◌+◌, ◌*◌, List, subst, sym, ap, ◌∙◌, arith}
+use Rattle.std.proofs.Common.{ℕ, ◌+◌, ◌*◌, ◌<◌, List, length, subst, sym, ap, ◌∙◌, arith}
 use borrow.Author.Tests.{eq-eqb, ne_eqb}
 use Rattle.residues.specs.Field.{cross_of}
 use Rattle.lists.specs.Lists.{at}
@@ -18,18 +18,21 @@ loop-r-preserved c =
     let a = c.args in
     let l = c.loop-r in
     let f : ℕ → ℕ = step a.q a.cols a.i a.p a.table.now a.values.now in
+    let within : l.r < length l.values = omega (arith, c.loop-r-test.true, l.invariant.front.whole) in
     let x : ℕ = at a.table.now (l.r * a.cols + a.p) in
     elim c.if-x-ne0.branch [
       | then-x-ne0 w ↦
           subst (λ (v : List ℕ). Carrying f a.values.now v (l.r + 1)) (sym w.values-is)
-          (carrying-next f _ l.values l.r w.cross_mod.result l.invariant c.loop-r-test.true
+          (carrying-next f _ l.values l.r w.cross_mod.result l.invariant within
           (w.cross_mod.ensures ∙ ap (λ (z : ℕ). cross_of a.q (at a.table.now (a.i * a.cols + a.p)) z x (at a.values.now a.i)) (l.invariant.rest l.r (omega arith))
           ∙ rw (ne_eqb x 0 w.if-x-ne0.true)))
       | else-x-ne0 w ↦
           subst (λ (v : List ℕ). Carrying f a.values.now v (l.r + 1)) (sym w.values-is)
-          (carrying-past f _ l.values l.r l.invariant c.loop-r-test.true (rw (eq-eqb x 0 w.if-x-ne0.false)))
+          (carrying-past f _ l.values l.r l.invariant within (rw (eq-eqb x 0 w.if-x-ne0.false)))
     ]
 
 pub returns : goal.returns
 unfolding step carried_by
-returns c = filling-whole _ _ _ c.loop-r.r c.loop-r.invariant.front c.loop-r-test.false
+returns c =
+    let front = c.loop-r.invariant.front in
+    filling-whole _ _ _ c.loop-r.r front (omega (arith, c.loop-r-test.false, front.whole))

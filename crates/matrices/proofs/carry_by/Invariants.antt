@@ -1,8 +1,7 @@
-use Prim.Native.Nat.{ℕ, ◌+◌, ◌-◌, ◌*◌}
+use Prim.Native.Nat.{ℕ, ◌+◌, ◌*◌}
 use mathlib.Core.Bool.{cond}
 use mathlib.Core.List.{List}
 use lib.Dec.{eqb}
-use lib.ListN.{length}
 use Rattle.residues.specs.Field.{cross_of}
 use Rattle.lists.specs.Lists.{at}
 use Rattle.matrices.proofs.Carrying.{Carrying}
@@ -13,6 +12,3 @@ step q cols i p T vs r = cond (eqb (at T (r * cols + p)) 0) (at vs r) (cross_of 
 
 abbrev pub invariant-loop-r : goal.invariant-loop-r
 invariant-loop-r l = Carrying (step l.q l.cols l.i l.p l.table l.initial.values) l.initial.values l.values l.r
-
-abbrev pub decreases-loop-r : goal.decreases-loop-r
-decreases-loop-r l = length l.initial.values - l.r

@@ -10,5 +10,5 @@ clear_rows-requires c =
     let lent = length-row a.cols a.i _ a.table.now (add-sub_cancel_left (a.i * a.cols) a.cols) fits in (
       rest-size a.rows a.cols a.from a.table.now c.requires.2 c.requires.0 ∙ sym (ap length (rest-whole (a.from * a.cols) a.table.now)),
       c.requires.4,
-      ap length (copied-front _ _ _ a.cols c.copy_all.ensures (sym lent)) ∙ lent,
+      ap length (copied-front _ _ _ a.cols c.copy_from_slice.ensures.after (sym lent)) ∙ lent,
     )

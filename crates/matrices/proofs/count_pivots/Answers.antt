@@ -26,19 +26,18 @@ loop-i-preserved c =
     let a = c.args in
     let h = c.loop-i-test.true in
     let e : c.eliminate_from.new.table ≡ eliminated_from a.q a.rows a.cols (s.i + 1) s.i s.table = c.eliminate_from.ensures.1 in
-    let size : a.rows * a.cols ≡ length s.table = c.requires.2 ∙ sym s.invariant.2 in (
-      omega (arith, h),
-      omega (arith, s.invariant.1, counted c, at_most (has_pivot a.rows a.cols s.i s.table)),
-      ap length e ∙ length-eliminated a.q a.rows a.cols s.i s.table (s.i + 1) size (omega (arith, h)) ∙ s.invariant.2,
+    let size : a.rows * a.cols ≡ length s.table = c.requires.2 ∙ sym s.invariant.1 in (
+      omega (arith, s.invariant.0, counted c, at_most (has_pivot a.rows a.cols s.i s.table)),
+      ap length e ∙ length-eliminated a.q a.rows a.cols s.i s.table (s.i + 1) size (omega (arith, h)) ∙ s.invariant.1,
       ap₂ (λ (m : ℕ) (X : List ℕ). m + pivots_from a.q a.rows a.cols (a.rows - (s.i + 1)) (s.i + 1) X) (counted c) e
-          ∙ count_next a.q a.rows a.cols s.i s.n _ s.table h s.invariant.3,
-      ap (reduced_from a.q a.rows a.cols (a.rows - (s.i + 1)) (s.i + 1)) e ∙ reduce-next a.q a.rows a.cols s.i s.table _ h s.invariant.4,
+          ∙ count_next a.q a.rows a.cols s.i s.n _ s.table h s.invariant.2,
+      ap (reduced_from a.q a.rows a.cols (a.rows - (s.i + 1)) (s.i + 1)) e ∙ reduce-next a.q a.rows a.cols s.i s.table _ h s.invariant.3,
     )
 
 pub returns : goal.returns
 returns c =
     let s = c.loop-i in
     let a = c.args in (
-      count-end a.q a.rows a.cols s.i s.n _ s.table c.loop-i-test.false s.invariant.3,
-      reduce-end a.q a.rows a.cols s.i s.table _ c.loop-i-test.false s.invariant.4,
+      count-end a.q a.rows a.cols s.i s.n _ s.table c.loop-i-test.false s.invariant.2,
+      reduce-end a.q a.rows a.cols s.i s.table _ c.loop-i-test.false s.invariant.3,
     )

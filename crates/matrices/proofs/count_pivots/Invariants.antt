@@ -7,11 +7,7 @@ use Rattle.matrices.proofs.count_pivots.Given as goal
 
 abbrev pub invariant-loop-i : goal.invariant-loop-i
 invariant-loop-i l =
-    (l.i ≤ l.rows)
-    × (l.n ≤ l.i)
+    (l.n ≤ l.i)
     × (length l.table ≡ length l.initial.table)
     × (l.n + pivots_from l.q l.rows l.cols (l.rows - l.i) l.i l.table ≡ pivots_from l.q l.rows l.cols l.rows 0 l.initial.table)
     × (reduced_from l.q l.rows l.cols (l.rows - l.i) l.i l.table ≡ reduced_from l.q l.rows l.cols l.rows 0 l.initial.table)
-
-abbrev pub decreases-loop-i : goal.decreases-loop-i
-decreases-loop-i l = l.rows - l.i

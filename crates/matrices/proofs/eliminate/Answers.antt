@@ -1,30 +1,14 @@
-use borrow.Author.Tests.{le-leb, lt-leb, le-ltb, eq-eqb, ne_eqb}
-use Rattle.matrices.proofs.Steps.{no-pivot}
+use Rattle.std.proofs.Common.{sym, ◌∙◌}
+use Rattle.matrices.proofs.Steps.{no-shape, no-row, no-pivot}
 use Rattle.matrices.proofs.eliminate.Goals as goal
+use Rattle.matrices.proofs.eliminate.Goals.{else-is_shaped-via-then-is_shaped+else-i-rows, else-is_shaped-via-else-is_shaped}
 
-pub returns-then-rows-gt-MOST : goal.returns-then-rows-gt-MOST
-returns-then-rows-gt-MOST c =
-    let a = c.args in
-    no-pivot a.q a.rows a.cols a.i a.table.now 0 (rw (lt-leb _ _ c.if-rows-gt-MOST.true))
-
-pub returns-then-cols-gt-MOST : goal.returns-then-cols-gt-MOST
-returns-then-cols-gt-MOST c =
-    let a = c.args in
-    no-pivot a.q a.rows a.cols a.i a.table.now 0 (rw (le-leb _ _ c.if-rows-gt-MOST.false, lt-leb _ _ c.if-cols-gt-MOST.true))
-
-pub returns-then-rows-cols : goal.returns-then-rows-cols
-returns-then-rows-cols c =
+pub returns-else-is_shaped : goal.returns-else-is_shaped
+returns-else-is_shaped c =
     let a = c.args in
     no-pivot a.q a.rows a.cols a.i a.table.now 0
-    (rw (le-leb _ _ c.if-rows-gt-MOST.false, le-leb _ _ c.if-cols-gt-MOST.false, ne_eqb _ _ c.if-rows-cols.true))
-
-pub returns-then-i-rows : goal.returns-then-i-rows
-returns-then-i-rows c =
-    let a = c.args in
-    no-pivot a.q a.rows a.cols a.i a.table.now 0
-    (rw (
-      le-leb _ _ c.if-rows-gt-MOST.false,
-      le-leb _ _ c.if-cols-gt-MOST.false,
-      eq-eqb _ _ c.if-rows-cols.false,
-      le-ltb _ _ c.if-i-rows.true,
-    ))
+    (elim c.else-is_shaped.branch [
+      | else-is_shaped-via-then-is_shaped+else-i-rows w ↦
+          no-row a.q a.rows a.cols a.i a.table.now (sym c.is_shaped.ensures ∙ w.if-is_shaped.true) w.if-i-rows.false
+      | else-is_shaped-via-else-is_shaped w ↦ no-shape a.q a.rows a.cols a.i a.table.now (sym c.is_shaped.ensures ∙ w.if-is_shaped.false)
+    ])

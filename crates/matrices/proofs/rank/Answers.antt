@@ -6,10 +6,10 @@ use Rattle.matrices.proofs.Elimination.{pivots-are-rank}
 use Rattle.matrices.proofs.RankChecks.{checks-passed}
 use Rattle.matrices.proofs.rank.Goals as goal
 
-pub returns-in-Accepted : goal.returns-in-Accepted
-returns-in-Accepted c =
+pub returns : goal.returns
+returns c =
     let a = c.args in
-    let p = checks-passed a.q a.rows a.cols a.table.now c.in-Accepted.ensures in
+    let p = checks-passed a.q a.rows a.cols a.table.now c.in_ok-check_rank.ensures in
     ap (λ (n : ℕ). record { refusal = accepted; value = n })
     (c.count_in_copy.ensures ∙ pivots-are-rank a.q p.prime a.rows a.cols a.table.now p.table)
-    ∙ accepted-outcome (rank_checks a.q a.rows a.cols a.table.now) _ c.in-Accepted.ensures
+    ∙ accepted-outcome (rank_checks a.q a.rows a.cols a.table.now) _ c.in_ok-check_rank.ensures

@@ -26,5 +26,5 @@ pub loop-k-preserved : goal.loop-k-preserved
 loop-k-preserved c =
     let s = c.loop-k in
     let a = c.args in
-    front-next _ _ s.table s.k c.symbol_at.result s.invariant c.loop-k-test.true
+    front-next _ _ s.table s.k c.symbol_at.result s.invariant (omega (arith, c.loop-k-test.true, s.auto.table))
     (c.symbol_at.ensures ∙ sym (padded-at (numbers_at a.width a.count a.bytes.now a.from) (length a.table.now - a.count) s.k))

@@ -13,6 +13,3 @@ meant width count B from table₀ = numbers_at width count B from ++ zeros (leng
 
 abbrev pub invariant-loop-k : goal.invariant-loop-k
 invariant-loop-k l = Front l.initial.table (meant l.width l.count l.bytes l.from l.initial.table) l.table l.k
-
-abbrev pub decreases-loop-k : goal.decreases-loop-k
-decreases-loop-k l = length l.table - l.k

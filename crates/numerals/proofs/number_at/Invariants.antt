@@ -12,6 +12,3 @@ pub record ReadFrom (width : ℕ) (B : List ℕ) (i n k : ℕ) : Type 0 where
 
 abbrev pub invariant-loop-k : goal.invariant-loop-k
 invariant-loop-k l = ReadFrom l.width l.bytes l.i l.n l.k
-
-abbrev pub decreases-loop-k : goal.decreases-loop-k
-decreases-loop-k l = l.k

@@ -7,5 +7,5 @@ pub returns-then-k-count : goal.returns-then-k-count
 returns-then-k-count c =
     number_is _ _ _ _ c.requires.0 c.number_at.ensures ∙ sym (numbers-at _ _ _ _ _ c.if-k-count.true)
 
-pub returns : goal.returns
-returns c = sym (no_number _ _ _ _ _ c.if-k-count.false)
+pub returns-else-k-count : goal.returns-else-k-count
+returns-else-k-count c = sym (no_number _ _ _ _ _ c.if-k-count.false)

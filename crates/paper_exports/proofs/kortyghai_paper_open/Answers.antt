@@ -7,7 +7,6 @@ use lib.ListN.{length}
 use Rattle.refusals.specs.declared.Code.{Code}
 use Rattle.refusals.specs.Codes.{accepted, code}
 use Rattle.refusals.proofs.CodeLaws.{accepted-takes}
-use Rattle.refusals.proofs.Answers.{passes}
 use Rattle.refusals.proofs.Orders.{first-accepts, rest-decides}
 use Rattle.lists.specs.Lists.{zeros}
 use Rattle.plans.proofs.PlanBounds.{bounds-known}
@@ -50,7 +49,4 @@ plan-small B ok =
 
 pub counts_of-counts-requires : goal.counts_of-counts-requires
 counts_of-counts-requires c =
-    let v = c.open-opening in
-    let B = c.args.bytes.now in
-    let ok = passes v.result.answer v.ensures.code c.is_accepted.ensures c.if-is_accepted.true in
-    subst Small (sym (ap (λ (R : Run). R.plan) v.ensures.run)) (plan-small B ok)
+    subst Small (sym (ap (λ (R : Run). R.plan) c.in-Ok.ensures.run)) (plan-small c.args.bytes.now c.in-Ok.ensures.code)

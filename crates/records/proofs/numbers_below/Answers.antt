@@ -1,27 +1,38 @@
 -- The invariant: the numbers that are left decide what all of them decide.
-use mathlib.Core.Path.{◌≡◌, sym, ap, ◌∙◌}
-use Prim.Native.Nat.{ℕ, suc, ◌-◌, ◌*◌}
+use mathlib.Core.Path.{◌≡◌, sym, ap₂, ◌∙◌}
+use mathlib.Core.List.{List}
+use Prim.Native.Nat.{ℕ, ◌+◌, ◌-◌, ◌*◌}
 use native.Mathlib.Omega.{arith}
-use Rattle.numerals.specs.Bytes.{number_at}
+use Rattle.residues.specs.Primes.{all_below}
+use Rattle.numerals.specs.Bytes.{numbers_at}
 use Rattle.numerals.proofs.Bytes.{number-not-below, number-below, no-numbers-below}
 use Rattle.numerals.proofs.Rows.{number_is}
 use Rattle.records.proofs.numbers_below.Goals as goal
 
+same_row : (q w : ℕ) (B : List ℕ) (n m i j : ℕ) → n ≡ m → i ≡ j → all_below q (numbers_at w n B i) ≡ all_below q (numbers_at w m B j)
+same_row q w B n m i j e f = ap₂ (λ (x y : ℕ). all_below q (numbers_at w x B y)) e f
+
+pub loop-k-init : goal.loop-k-init
+loop-k-init c =
+    let a = c.args in
+    same_row a.q a.width a.bytes.now (a.count - 0) a.count (a.from + a.width * 0) a.from (omega arith) (omega arith)
+
 pub returns-then-number_at-q : goal.returns-then-number_at-q
 returns-then-number_at-q c =
-    let read : (let a = c.args in c.number_at.result ≡ number_at a.width a.bytes.now c.loop-left.i) = number_is _ _ _ _ c.requires.0 c.number_at.ensures in
-    let s = c.loop-left in
-    sym (number-not-below _ _ _ _ s.i c.loop-left-test.true (omega (arith, c.if-number_at-q.true, read))) ∙ s.invariant.1
+    sym
+    (number-not-below _ _ _ _ _ (omega (arith, c.loop-k-test.true)) (omega (arith, c.if-number_at-q.true, number_is _ _ _ _ c.requires.0 c.number_at.ensures)))
+    ∙ c.loop-k.invariant
 
-pub loop-left-preserved : goal.loop-left-preserved
-loop-left-preserved c =
-    let next : (let w : ℕ = c.args.width in w * c.loop-left.left ≡ w * suc (c.loop-left.left - 1)) = ap (◌*◌ c.args.width) {x = c.loop-left.left} {y = suc (c.loop-left.left - 1)} (omega (arith, c.loop-left-test.true)) in
-    let read : (let a = c.args in c.number_at.result ≡ number_at a.width a.bytes.now c.loop-left.i) = number_is _ _ _ _ c.requires.0 c.number_at.ensures in
-    let s = c.loop-left in (
-      omega (arith, s.invariant.0, next),
-      sym
-          (number-below _ _ _ _ s.i c.loop-left-test.true (omega (arith, c.if-number_at-q.false, read))) ∙ s.invariant.1,
-    )
+pub loop-k-preserved : goal.loop-k-preserved
+loop-k-preserved c =
+    let s = c.loop-k in
+    let a = c.args in
+    let k : ℕ = s.k in
+    same_row a.q a.width a.bytes.now (a.count - (k + 1)) (a.count - k - 1) (a.from + a.width * (k + 1)) (a.from + a.width * k + a.width) (omega arith)
+    (omega arith)
+    ∙ sym
+    (number-below _ _ _ _ _ (omega (arith, c.loop-k-test.true)) (omega (arith, c.if-number_at-q.false, number_is _ _ _ _ c.requires.0 c.number_at.ensures)))
+    ∙ s.invariant
 
 pub returns : goal.returns
-returns c = sym (no-numbers-below _ _ _ c.loop-left.left c.loop-left.i c.loop-left-test.false) ∙ c.loop-left.invariant.1
+returns c = sym (no-numbers-below _ _ _ _ _ (omega (arith, c.loop-k-test.false))) ∙ c.loop-k.invariant

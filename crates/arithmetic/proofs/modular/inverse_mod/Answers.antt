@@ -18,8 +18,8 @@ returns-then-r0-eq1 c =
     (subst (λ (z : ℕ). Euclid a.q a.a z 0 s.t0 s.t1) c.if-r0-eq1.true
     (subst (λ (z : ℕ). Euclid a.q a.a s.r0 z s.t0 s.t1) c.loop-r1-test.false s.invariant))
 
-pub returns : goal.returns
-returns c =
+pub returns-else-r0-eq1 : goal.returns-else-r0-eq1
+returns-else-r0-eq1 c =
     let s = c.loop-r1 in
     let a = c.args in
     euclid-none _ _ s.r0 s.t0 s.t1 c.if-r0-eq1.false

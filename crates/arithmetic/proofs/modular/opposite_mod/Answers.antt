@@ -35,5 +35,5 @@ lacks q b r e n = go (ℕ_discrete q 0)
 pub returns-then-r-eq0 : goal.returns-then-r-eq0
 returns-then-r-eq0 c = sym (nothing-lacks c.args.q c.args.b (sym c.reduce-r.ensures ∙ c.if-r-eq0.true))
 
-pub returns : goal.returns
-returns c = lacks _ _ _ c.reduce-r.ensures c.if-r-eq0.false
+pub returns-else-r-eq0 : goal.returns-else-r-eq0
+returns-else-r-eq0 c = lacks _ _ _ c.reduce-r.ensures c.if-r-eq0.false

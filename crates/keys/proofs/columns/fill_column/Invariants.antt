@@ -1,5 +1,5 @@
 -- The invariant: the symbols written are those of the positions passed.
-use Rattle.std.proofs.Common.{ℕ, ◌+◌, ◌-◌, ◌*◌, List, length}
+use Rattle.std.proofs.Common.{ℕ, ◌+◌, ◌*◌, List}
 use Rattle.lists.specs.Lists.{at}
 use Rattle.lists.proofs.Filling.{Filling}
 use Rattle.keys.proofs.columns.fill_column.Given as goal
@@ -10,6 +10,3 @@ symbol rate k source p = at source (p * rate + k)
 
 abbrev pub invariant-loop-p : goal.invariant-loop-p
 invariant-loop-p l = Filling (symbol l.rate l.k l.source) l.initial.column l.column l.p
-
-abbrev pub decreases-loop-p : goal.decreases-loop-p
-decreases-loop-p l = length l.column - l.p

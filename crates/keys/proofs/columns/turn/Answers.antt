@@ -21,17 +21,15 @@ long s k = length-tab s.args.positions _
 pub loop-k-init : goal.loop-k-init
 loop-k-init c =
     let s = (goal.at.loop-k-init c).Start in
-    let a = s.args in (
-      omega arith,
-      front-none _ _ (0 * a.positions) (omega arith) (length-join a.positions (columns s) (long s) a.rate ∙ sym s.requires.1),
-    )
+    let a = s.args in
+    front-none _ _ (0 * a.positions) (omega arith) (length-join a.positions (columns s) (long s) a.rate ∙ sym s.requires.1)
 
 -- the column lies in the lent list
 fits : (i : In-loop-k) → (let a = (start i).args in i.loop-k.k * a.positions + a.positions ≤ length i.loop-k.turned)
 fits i =
     let a = (start i).args in
     row_fits a.rate a.positions i.loop-k.k (length i.loop-k.turned) i.loop-k-test.true
-    (i.loop-k.invariant.1.whole ∙ (start i).requires.1)
+    (i.loop-k.invariant.whole ∙ (start i).requires.1)
 
 -- as many symbols are lent as there are positions
 lent : (i : In-loop-k) → (let a = (start i).args in
@@ -49,12 +47,10 @@ loop-k-preserved c =
     let S = start i in
     let a = S.args in
     let b : ℕ = s.k * a.positions in
-    let v : ℕ = b + a.positions - b in (
-      omega (arith, i.loop-k-test.true),
-      front-part _ _ s.turned b v ((s.k + 1) * a.positions) c.fill_column.new.column (omega arith) s.invariant.1
-          (omega (arith, fits i))
-          (c.fill_column.ensures
-          ∙ ap (λ (n : ℕ). tab n (λ p. at a.source.now (p * a.rate + s.k))) (lent i)
-          ∙ sym (join-part a.positions (columns S) (long S) a.rate s.k i.loop-k-test.true)
-          ∙ ap (λ (n : ℕ). take n (drop b (join_to a.rate (columns S)))) (sym (add-sub_cancel_left b a.positions))),
-    )
+    let v : ℕ = b + a.positions - b in
+    front-part _ _ s.turned b v ((s.k + 1) * a.positions) c.fill_column.new.column (omega arith) s.invariant
+    (omega (arith, fits i))
+    (c.fill_column.ensures
+    ∙ ap (λ (n : ℕ). tab n (λ p. at a.source.now (p * a.rate + s.k))) (lent i)
+    ∙ sym (join-part a.positions (columns S) (long S) a.rate s.k i.loop-k-test.true)
+    ∙ ap (λ (n : ℕ). take n (drop b (join_to a.rate (columns S)))) (sym (add-sub_cancel_left b a.positions)))

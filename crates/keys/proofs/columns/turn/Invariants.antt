@@ -1,5 +1,5 @@
 -- The invariant: the columns written are those of the products passed.
-use Rattle.std.proofs.Common.{ℕ, ◌+◌, ◌-◌, ◌*◌, ◌≤◌, List}
+use Rattle.std.proofs.Common.{ℕ, ◌+◌, ◌*◌, List}
 use Rattle.lists.specs.Lists.{at, tab, join_to}
 use Rattle.lists.proofs.Fronts.{Front}
 use Rattle.keys.proofs.columns.turn.Given as goal
@@ -10,7 +10,4 @@ column rate positions source k = tab positions (λ p. at source (p * rate + k))
 
 abbrev pub invariant-loop-k : goal.invariant-loop-k
 invariant-loop-k l =
-    (l.k ≤ l.rate) × Front l.initial.turned (join_to l.rate (column l.rate l.positions l.source)) l.turned (l.k * l.positions)
-
-abbrev pub decreases-loop-k : goal.decreases-loop-k
-decreases-loop-k l = l.rate - l.k
+    Front l.initial.turned (join_to l.rate (column l.rate l.positions l.source)) l.turned (l.k * l.positions)

@@ -1,22 +1,9 @@
-use Rattle.std.proofs.Common.{◌≡◌}
-use Rattle.refusals.specs.declared.Code.{Code}
-use Rattle.refusals.specs.Codes.{accepted}
-use Rattle.refusals.proofs.Answers.{passes}
 use Rattle.residues.proofs.PrimeLaws.{prime-pos}
-use Rattle.keys.specs.Keys.{key_code}
 use Rattle.keys.proofs.KeyLaws.{derivable}
 use Rattle.keys.proofs.derive.derive_keys.Goals as goal
-use Rattle.keys.proofs.derive.derive_keys.Goals.{Start, Then-is_accepted}
-
--- the code of the call
-abbrev code : Start → Code
-code s = key_code s.args.plan s.args.table.now s.args.length s.args.source.now s.args.keys.now
-
-told : (c : Then-is_accepted) → accepted ≡ code (goal.at.Then-is_accepted c).Start
-told c = passes c.check_keys-verdict.result c.check_keys-verdict.ensures c.is_accepted.ensures c.if-is_accepted.true
 
 pub write_keys-requires : goal.write_keys-requires
 write_keys-requires c =
     let a = c.args in
-    let d = derivable a.plan a.table.now a.length a.source.now a.keys.now (told (goal.at.write_keys-requires c).Then-is_accepted) in
+    let d = derivable a.plan a.table.now a.length a.source.now a.keys.now c.in_ok-check_keys.ensures in
     (prime-pos d.prime, d.few-users, d.size, d.source, d.room, d.few-symbols, d.short, d.table_below, d.source-below)

@@ -9,12 +9,10 @@ use Rattle.keys.proofs.derive.users_keys.Goals.{In-loop-i, Start}
 
 pub loop-i-init : goal.loop-i-init
 loop-i-init c =
-    let a = c.args in (
-      omega arith,
-      front-none _ _ (0 * a.positions) (omega arith)
-          (length-rows a.plan.q (users_of a.plan) a.plan.rate a.positions a.table.now (turned_symbols a.positions a.turned.now)
-          ∙ sym c.requires.4),
-    )
+    let a = c.args in
+    front-none _ _ (0 * a.positions) (omega arith)
+    (length-rows a.plan.q (users_of a.plan) a.plan.rate a.positions a.table.now (turned_symbols a.positions a.turned.now)
+    ∙ sym c.requires.4)
 
 abbrev start : In-loop-i → Start
 start i = (goal.at.In-loop-i i).Start
@@ -32,13 +30,13 @@ keys_in : (c : In-loop-i) → (let a = (start c).args in c.loop-i.i * a.position
 keys_in c =
     let a = (start c).args in
     row_fits (users_of a.plan) a.positions c.loop-i.i (length c.loop-i.keys) c.loop-i-test.true
-    (c.loop-i.invariant.1.whole ∙ (start c).requires.4)
+    (c.loop-i.invariant.whole ∙ (start c).requires.4)
+
+pub slice_bounds-row-end : goal.slice_bounds-row-end
+slice_bounds-row-end c = row_in (goal.at.slice_bounds-row-end c).In-loop-i
 
 pub slice_bounds-user_keys-end : goal.slice_bounds-user_keys-end
-slice_bounds-user_keys-end c = row_in (goal.at.slice_bounds-user_keys-end c).In-loop-i
-
-pub slice_bounds-user_keys-end-in-loop-i : goal.slice_bounds-user_keys-end-in-loop-i
-slice_bounds-user_keys-end-in-loop-i c = keys_in (goal.at.slice_bounds-user_keys-end-in-loop-i c).In-loop-i
+slice_bounds-user_keys-end c = keys_in (goal.at.slice_bounds-user_keys-end c).In-loop-i
 
 pub user_keys-requires : goal.user_keys-requires
 user_keys-requires c =
@@ -67,11 +65,9 @@ loop-i-preserved c =
     let h = c.loop-i-test.true in
     let b : ℕ = s.i * a.positions in
     let r : ℕ = s.i * a.plan.rate in
-    let v : ℕ = b + a.positions - b in (
-      omega (arith, h),
-      front-part _ _ s.keys b v ((s.i + 1) * a.positions) c.user_keys.new.keys (omega arith) s.invariant.1
-          (omega (arith, keys_in (goal.at.loop-i-preserved c).In-loop-i))
-          (c.user_keys.ensures ∙ keys-of-row a.plan.q (users_of a.plan) a.plan.rate a.positions a.table.now a.turned.now
-          s.keys s.i (r + a.plan.rate - r) v (add-sub_cancel_left _ _) (add-sub_cancel_left _ _) h (row_in (goal.at.loop-i-preserved c).In-loop-i)
-          (keys_in (goal.at.loop-i-preserved c).In-loop-i)),
-    )
+    let v : ℕ = b + a.positions - b in
+    front-part _ _ s.keys b v ((s.i + 1) * a.positions) c.user_keys.new.keys (omega arith) s.invariant
+    (omega (arith, keys_in (goal.at.loop-i-preserved c).In-loop-i))
+    (c.user_keys.ensures ∙ keys-of-row a.plan.q (users_of a.plan) a.plan.rate a.positions a.table.now a.turned.now
+    s.keys s.i (r + a.plan.rate - r) v (add-sub_cancel_left _ _) (add-sub_cancel_left _ _) h (row_in (goal.at.loop-i-preserved c).In-loop-i)
+    (keys_in (goal.at.loop-i-preserved c).In-loop-i))

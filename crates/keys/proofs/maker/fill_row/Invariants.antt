@@ -1,11 +1,7 @@
 -- The invariant: the powers written are those of the exponents passed.
-use Rattle.std.proofs.Common.{◌-◌, length}
 use Rattle.residues.specs.Field.{power_of}
 use Rattle.lists.proofs.Filling.{Filling}
 use Rattle.keys.proofs.maker.fill_row.Given as goal
 
 abbrev pub invariant-loop-k : goal.invariant-loop-k
 invariant-loop-k l = Filling (power_of l.q l.base) l.initial.row l.row l.k
-
-abbrev pub decreases-loop-k : goal.decreases-loop-k
-decreases-loop-k l = length l.row - l.k

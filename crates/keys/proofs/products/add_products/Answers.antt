@@ -18,10 +18,10 @@ loop-p-preserved c =
     let i = (goal.at.loop-p-preserved c).In-loop-p in
     let s = i.loop-p in
     let a = (start i).args in
-    in-place-next (more a.q a.a a.symbols.now a.sums.now) _ s.sums s.p c.add_to.result s.invariant i.loop-p-test.true
+    in-place-next (more a.q a.a a.symbols.now a.sums.now) _ s.sums s.p c.add_to.result s.invariant (omega (arith, i.loop-p-test.true, s.auto.sums))
     (c.add_to.ensures
     ∙ ap₂ (λ (x y : ℕ). (x + y) % a.q) (still i) c.product-more.ensures
     ∙ to-mod (c-add c-refl (of-rem a.q (a.a * at a.symbols.now s.p))))
 
 pub returns : goal.returns
-returns c = in-place-whole _ _ _ c.loop-p.p c.loop-p.invariant c.loop-p-test.false
+returns c = in-place-whole _ _ _ c.loop-p.p c.loop-p.invariant (omega (arith, c.loop-p-test.false, c.loop-p.auto.sums))

@@ -1,4 +1,4 @@
-use Prim.Native.Nat.{ℕ, zero-le, ◌+◌, ◌*◌, ◌≤◌}
+use Prim.Native.Nat.{ℕ, ◌+◌, ◌*◌, ◌≤◌}
 use mathlib.Core.Path.{◌≡◌, refl, sym, ap, ◌∙◌}
 use mathlib.Core.Bool.{true, false}
 use native.Mathlib.Omega.{arith}
@@ -19,7 +19,7 @@ ends c = row_ends c.args.n c.args.cols c.loop-s.s _ c.loop-s-test.true c.require
 
 pub loop-s-init : goal.loop-s-init
 unfolding all_to
-loop-s-init c = (zero-le, refl)
+loop-s-init c = refl
 
 pub returns-then-not-all_below : goal.returns-then-not-all_below
 unfolding test
@@ -35,17 +35,15 @@ pub loop-s-preserved : goal.loop-s-preserved
 unfolding test
 loop-s-preserved c =
     let a = c.args in
-    let l = c.loop-s in (
-      omega (arith, c.loop-s-test.true),
-      all-next (test a.cols a.table.now) l.s l.invariant.1
-          (cleared-is a.cols (row_of a.cols a.table.now l.s)
-          (length_part a.cols (l.s * a.cols) a.table.now (ends (goal.at.loop-s-preserved c).In-loop-s)) true
-          (sym (c.if-not-all_below.false) ∙ c.all_below.ensures ∙ ap (all_below 1) (part-row a.cols l.s a.table.now))),
-    )
+    let l = c.loop-s in
+    all-next (test a.cols a.table.now) l.s l.invariant
+    (cleared-is a.cols (row_of a.cols a.table.now l.s)
+    (length_part a.cols (l.s * a.cols) a.table.now (ends (goal.at.loop-s-preserved c).In-loop-s)) true
+    (sym (c.if-not-all_below.false) ∙ c.all_below.ensures ∙ ap (all_below 1) (part-row a.cols l.s a.table.now)))
 
 pub returns : goal.returns
 unfolding test
 returns c =
     let a = c.args in
-    let e : c.loop-s.s ≡ a.n = omega (arith, c.loop-s-test.false) in
-    sym (ap (λ (k : ℕ). all_to k (test a.cols a.table.now)) (sym e) ∙ c.loop-s.invariant.1)
+    let e : c.loop-s.s ≡ a.n = omega (arith, c.loop-s-test.false, c.loop-s.auto.s-end) in
+    sym (ap (λ (k : ℕ). all_to k (test a.cols a.table.now)) (sym e) ∙ c.loop-s.invariant)

@@ -1,4 +1,4 @@
-use Prim.Native.Nat.{ℕ, ◌-◌, ◌≤◌}
+use Prim.Native.Nat.{ℕ}
 use mathlib.Core.Path.{◌≡◌}
 use mathlib.Core.Bool.{Bool, true, not}
 use mathlib.Core.List.{List}
@@ -13,7 +13,4 @@ unfoldable pub test : ℕ → ℕ → List ℕ → ℕ → Bool
 test q reported Y j = not (has_bit reported j) || ltb (at Y j) q
 
 abbrev pub invariant-loop-j : goal.invariant-loop-j
-invariant-loop-j l = (l.j ≤ l.count) × (all_to l.j (test l.q l.reported l.sums) ≡ true)
-
-abbrev pub decreases-loop-j : goal.decreases-loop-j
-decreases-loop-j l = l.count - l.j
+invariant-loop-j l = all_to l.j (test l.q l.reported l.sums) ≡ true

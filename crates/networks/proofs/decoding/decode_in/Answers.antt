@@ -1,10 +1,13 @@
 use mathlib.Core.Path.{◌≡◌, sym, ap, ◌∙◌}
 use mathlib.Core.Bool.{Bool, true, false, cond}
+use native.Mathlib.Omega.{arith}
+use lib.ListN.{length}
 use Rattle.lists.specs.Lists.{tab}
 use Rattle.lists.proofs.Searches.{true→T}
 use Rattle.cyclic.specs.Decoding.{decodable, decoded}
 use Rattle.networks.specs.Rings.{network_of}
 use Rattle.networks.proofs.DecodeLaws.{answer-is, totals-are}
+use Rattle.networks.proofs.ValueLaws.{units-all}
 use Rattle.networks.proofs.decoding.decode_in.Goals as goal
 use Rattle.networks.proofs.decoding.decode_in.Goals.{After-all_cleared}
 
@@ -34,7 +37,7 @@ returns c =
       out = c.write_totals.ensures
           ∙ totals-are a.ring a.table.now a.weights.now c.requires.0 a.reported a.sums.now _ _
           c.fill_grid.ensures c.requires.3 c.requires.1 c.requires.2 (true→T _ (sym e)) _ _ _ _ _ _ c.write_start.ensures.values
-          c.write_start.ensures.units c.requires.5
+          (c.write_start.ensures.units ∙ units-all a.ring.parts (length a.units.now) (omega (arith, c.requires.5))) c.requires.5
           c.sweep_all.ensures.values c.sweep_all.ensures.units c.requires.6
           ∙ ap (λ (b : Bool). cond b (tab a.ring.parts (decoded (network_of a.ring a.table.now a.weights.now) a.reported a.sums.now))
           a.out.now) e;

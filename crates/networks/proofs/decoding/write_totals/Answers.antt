@@ -11,6 +11,5 @@ loop-s-init c = filling-none _ _ 0 refl
 pub loop-s-preserved : goal.loop-s-preserved
 loop-s-preserved c =
     let l = c.loop-s in
-    let a = c.args in
-    filling-next _ _ l.out l.s c.mul_mod.result l.invariant (omega arith)
-    (c.mul_mod.ensures ∙ ap₂ (λ (v u : ℕ). product_of a.q v u) c.opposite_mod-v.ensures c.inverse_mod-u.ensures)
+    filling-next _ _ l.out l.s c.mul_mod.result l.invariant (omega (arith, c.loop-s-test.true, l.auto.out))
+    (c.mul_mod.ensures ∙ ap₂ (λ (v u : ℕ). product_of c.args.q v u) c.opposite_mod.ensures c.inverse_mod.ensures)

@@ -1,5 +1,3 @@
-use Prim.Native.Nat.{◌-◌}
-use lib.ListN.{length}
 use Rattle.residues.specs.Field.{opposite_of, product_of, inverse_of}
 use Rattle.lists.specs.Lists.{at}
 use Rattle.lists.proofs.Filling.{Filling}
@@ -7,6 +5,3 @@ use Rattle.networks.proofs.decoding.write_totals.Given as goal
 
 abbrev pub invariant-loop-s : goal.invariant-loop-s
 invariant-loop-s l = Filling (λ s. product_of l.q (opposite_of l.q (at l.values s)) (inverse_of l.q (at l.units s))) l.initial.out l.out l.s
-
-abbrev pub decreases-loop-s : goal.decreases-loop-s
-decreases-loop-s l = length l.initial.out - l.s

@@ -1,5 +1,4 @@
-use Prim.Native.Nat.{ℕ, ◌+◌, ◌-◌, ◌/◌, ◌%◌}
-use lib.ListN.{length}
+use Prim.Native.Nat.{ℕ, ◌+◌, ◌/◌, ◌%◌}
 use Rattle.cyclic.specs.Network.{Network}
 use Rattle.networks.specs.Rings.{network_of}
 use Rattle.networks.specs.Grids.{entry_of}
@@ -12,6 +11,3 @@ cell C w first from width t = entry_of C w (first + t / width) (from + t % width
 abbrev pub invariant-loop-t : goal.invariant-loop-t
 invariant-loop-t l =
     Filling (cell (network_of l.ring l.table l.weights) l.w l.first l.from l.width) l.initial.out l.out l.t
-
-abbrev pub decreases-loop-t : goal.decreases-loop-t
-decreases-loop-t l = length l.out - l.t

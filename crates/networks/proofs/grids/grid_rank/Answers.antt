@@ -25,5 +25,10 @@ pub slice_bounds-rank_in-end : goal.slice_bounds-rank_in-end
 slice_bounds-rank_in-end c = front-size _ _ (few (goal.at.slice_bounds-rank_in-end c).After-rows_seen)
 
 pub rank_in-requires : goal.rank_in-requires
-rank_in-requires c =
-    (c.requires.0, c.requires.1, c.requires.2, c.requires.3, sym (front-size _ _ (few (goal.at.rank_in-requires c).After-rows_seen)) ∙ cells (goal.at.rank_in-requires c).After-rows_seen)
+rank_in-requires c = (
+  c.requires.0,
+  c.requires.1,
+  c.requires.2,
+  c.requires.3,
+  sym (front-size _ _ (few (goal.at.rank_in-requires c).After-rows_seen)) ∙ cells (goal.at.rank_in-requires c).After-rows_seen,
+)

@@ -14,9 +14,9 @@ returns-then-l-ring c =
     let h : (a.k + (a.ring.size - a.j)) % a.ring.size < a.ring.links = omega arith in
     c.weight_at.ensures ∙ reading-linked C a.j a.k a.s h
 
-pub returns : goal.returns
+pub returns-else-l-ring : goal.returns-else-l-ring
 unfolding link_of
-returns c =
+returns-else-l-ring c =
     let a = c.args in
     let C : Network = network_of a.ring a.table.now a.weights.now in
     let h : a.ring.links ≤ (a.k + (a.ring.size - a.j)) % a.ring.size = omega arith in

@@ -13,8 +13,8 @@ returns-then-c-m c =
     let h : a.c < a.ring.size * a.ring.parts = omega arith in
     c.reading_at.ensures ∙ relay-in C a.j a.c h
 
-pub returns : goal.returns
-returns c =
+pub returns-else-c-m : goal.returns-else-c-m
+returns-else-c-m c =
     let a = c.args in
     let C : Network = network_of a.ring a.table.now a.weights.now in
     let h : a.ring.size * a.ring.parts ≤ a.c = omega arith in

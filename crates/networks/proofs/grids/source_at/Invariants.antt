@@ -1,4 +1,4 @@
-use Prim.Native.Nat.{ℕ, ◌+◌, ◌-◌, ◌*◌, ◌%◌, ◌≤◌}
+use Prim.Native.Nat.{ℕ, ◌+◌, ◌*◌, ◌%◌}
 use mathlib.Core.Path.{◌≡◌}
 use Rattle.networks.specs.Rings.{network_of}
 use Rattle.cyclic.specs.Network.{Network, heard, weight}
@@ -10,7 +10,4 @@ unfoldable pub term : Network → ℕ → ℕ → ℕ → ℕ
 term C j s l = weight C (heard C j l) l C.parts * at C.table (heard C j l * C.rate + s)
 
 abbrev pub invariant-loop-l : goal.invariant-loop-l
-invariant-loop-l l = (l.l ≤ l.ring.links) × (l.sum ≡ sum_to l.l (term (network_of l.ring l.table l.weights) l.j l.s) % l.ring.q)
-
-abbrev pub decreases-loop-l : goal.decreases-loop-l
-decreases-loop-l l = l.ring.links - l.l
+invariant-loop-l l = l.sum ≡ sum_to l.l (term (network_of l.ring l.table l.weights) l.j l.s) % l.ring.q

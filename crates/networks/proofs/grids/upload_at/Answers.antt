@@ -9,23 +9,8 @@ use Rattle.residues.proofs.Congruence.{residue-mod}
 use Rattle.networks.proofs.GridLaws.{upload-in, upload-other, upload-out}
 use Rattle.networks.proofs.grids.upload_at.Goals as goal
 
-pub returns-then-c-ring : goal.returns-then-c-ring
-returns-then-c-ring c =
-    let a = c.args in
-    let C : Network = network_of a.ring a.table.now a.weights.now in
-    let h : a.c < a.ring.size * a.ring.parts = omega arith in
-    let e : a.c / a.ring.parts ≡ a.k = omega arith in
-    c.weight_at.ensures ∙ upload-in C a.k a.l a.c h e
-
 pub returns-then-c-m : goal.returns-then-c-m
 returns-then-c-m c =
-    let a = c.args in
-    let C : Network = network_of a.ring a.table.now a.weights.now in
-    let h : a.c < a.ring.size * a.ring.parts = omega arith in
-    upload-other C a.k a.l a.c h c.if-c-ring.false
-
-pub returns : goal.returns
-returns c =
     let a = c.args in
     let C : Network = network_of a.ring a.table.now a.weights.now in
     let h : a.ring.size * a.ring.parts ≤ a.c = omega arith in
@@ -36,3 +21,18 @@ returns c =
     ∙ ap (λ (z : ℕ). z * at a.table.now (a.k * a.ring.rate + (a.c - a.ring.size * a.ring.parts)) % a.ring.q)
     c.weight_at-w.ensures
     ∙ upload-out C a.k a.l a.c h
+
+pub returns-then-c-ring : goal.returns-then-c-ring
+returns-then-c-ring c =
+    let a = c.args in
+    let C : Network = network_of a.ring a.table.now a.weights.now in
+    let h : a.c < a.ring.size * a.ring.parts = omega arith in
+    let e : a.c / a.ring.parts ≡ a.k = omega arith in
+    c.weight_at.ensures ∙ upload-in C a.k a.l a.c h e
+
+pub returns-else-c-ring : goal.returns-else-c-ring
+returns-else-c-ring c =
+    let a = c.args in
+    let C : Network = network_of a.ring a.table.now a.weights.now in
+    let h : a.c < a.ring.size * a.ring.parts = omega arith in
+    upload-other C a.k a.l a.c h c.if-c-ring.false

@@ -1,4 +1,4 @@
-use Prim.Native.Nat.{ℕ, zero-le, ◌+◌, ◌*◌, ◌%◌, ◌≤◌, ◌<◌}
+use Prim.Native.Nat.{ℕ, ◌+◌, ◌*◌, ◌%◌, ◌≤◌, ◌<◌}
 use mathlib.Core.Path.{◌≡◌, refl, ap, ◌∙◌}
 use native.Mathlib.Omega.{arith}
 use lib.ListN.{length}
@@ -20,37 +20,32 @@ place s i h =
     omega (arith, weight-place a.ring s.requires.0 a.k a.l i s.requires.3 s.requires.4 h, s.requires.2)
 
 pub loop-s-init : goal.loop-s-init
-loop-s-init c = (zero-le, kept-none _ _)
+loop-s-init c = kept-none _ _
 
 pub bounds-weights-base : goal.bounds-weights-base
-bounds-weights-base c = place (goal.at.bounds-weights-base c).Start c.loop-s.s
-    (omega (arith, c.loop-s-test.true, c.requires.5))
+bounds-weights-base c = place (goal.at.bounds-weights-base c).Start c.loop-s.s (omega (arith, c.loop-s-test.true))
 
 pub loop-s-preserved : goal.loop-s-preserved
 unfolding term weight
 loop-s-preserved c =
     let a = c.args in
-    let l = c.loop-s in (
-      omega (arith, c.loop-s-test.true),
-      c.mul_add_mod-sum.ensures
-          ∙ kept_next a.ring.q (term a.ring a.weights.now a.k a.l a.reading.now) l.s l.sum _
-          c.requires.1 l.invariant.1 refl,
-    )
+    let l = c.loop-s in
+    c.mul_add_mod-sum.ensures
+    ∙ kept_next a.ring.q (term a.ring a.weights.now a.k a.l a.reading.now) l.s l.sum _
+    c.requires.1 l.invariant refl
 
 pub bounds-weights-base-2 : goal.bounds-weights-base-2
-bounds-weights-base-2 c = place (goal.at.bounds-weights-base-2 c).Start c.loop-s.s
-    (omega (arith, c.requires.5))
+bounds-weights-base-2 c = place (goal.at.bounds-weights-base-2 c).Start c.args.ring.parts (omega arith)
 
 pub returns : goal.returns
 unfolding upload_of term weight
 returns c =
     let a = c.args in
     let l = c.loop-s in
-    let e : l.s ≡ a.ring.parts = omega
-    (arith, c.loop-s-test.false, c.requires.5) in
+    let e : l.s ≡ a.ring.parts = omega (arith, c.loop-s-test.false, l.auto.s-end) in
     c.mul_add_mod.ensures
     ∙ residue-mod a.ring.q _ c.requires.1
-    ∙ to-mod (c-add (c-trans (of_eq l.invariant.1)
+    ∙ to-mod (c-add (c-trans (of_eq l.invariant)
     (of-rem a.ring.q (sum_to l.s (term a.ring a.weights.now a.k a.l a.reading.now)))) c-refl)
     ∙ ap (λ (n : ℕ). (sum_to n (term a.ring a.weights.now a.k a.l a.reading.now) + at a.weights.now
-    ((a.k * a.ring.links + a.l) * (a.ring.parts + 1) + n) * a.key) % a.ring.q) e
+    ((a.k * a.ring.links + a.l) * (a.ring.parts + 1) + a.ring.parts) * a.key) % a.ring.q) e

@@ -1,7 +1,6 @@
-use Prim.Native.Nat.{ℕ, ◌-◌, ◌*◌, ◌%◌, ◌≤◌}
+use Prim.Native.Nat.{ℕ, ◌*◌, ◌%◌}
 use mathlib.Core.Path.{◌≡◌}
 use mathlib.Core.List.{List, []}
-use lib.ListN.{length}
 use Rattle.lists.specs.Lists.{at}
 use Rattle.lists.specs.Sums.{sum_to}
 use Rattle.cyclic.specs.Network.{weight}
@@ -13,7 +12,4 @@ unfoldable pub term : Ring → List ℕ → ℕ → ℕ → List ℕ → ℕ →
 term R A k l w s = weight (network_of R [] A) k l s * at w s
 
 abbrev pub invariant-loop-s : goal.invariant-loop-s
-invariant-loop-s l = (l.s ≤ length l.reading) × (l.sum ≡ sum_to l.s (term l.ring l.weights l.k l.l l.reading) % l.ring.q)
-
-abbrev pub decreases-loop-s : goal.decreases-loop-s
-decreases-loop-s l = length l.reading - l.s
+invariant-loop-s l = l.sum ≡ sum_to l.s (term l.ring l.weights l.k l.l l.reading) % l.ring.q

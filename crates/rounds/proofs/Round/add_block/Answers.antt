@@ -20,7 +20,7 @@ pub loop-p-init : goal.loop-p-init
 loop-p-init c =
     let r : Round = c.args.self in
     let l : length r.sums ≡ max_length = search rules in
-    (omega arith, l, ap (with_sums r) (added_none r.q r.sums c.args.block.now l))
+    (l, ap (with_sums r) (added_none r.q r.sums c.args.block.now l))
 
 -- what stands in a position that is still to come is as it was, so that both numbers are symbols
 pub loop-p-preserved : goal.loop-p-preserved
@@ -31,7 +31,7 @@ loop-p-preserved c =
     let S : List ℕ = added_to r.q s.p r.sums bl in
     let h : s.p < length bl = omega (arith, c.loop-p-test.true) in
     let few : length bl ≤ max_length = c.requires.few in
-    let e : s.self ≡ with_sums r S = s.invariant.2 in
+    let e : s.self ≡ with_sums r S = s.invariant.1 in
     let m : at S s.p ≡ at (take (length bl) r.sums) s.p =
     added-at r.q r.sums bl s.p (omega arith) ∙ sym (get_or-take (length bl) r.sums s.p 0 h) in
     let low : at S s.p < r.q =
@@ -40,8 +40,7 @@ loop-p-preserved c =
     c.add_symbols.ensures
     ∙ ap (λ (w : Round). symbol_sum w.q (at w.sums s.p) (at bl s.p)) e
     ∙ symbol-sum r.q (at S s.p) (at bl s.p) low (below_at r.q bl c.requires.positive (true→T _ c.requires.below) s.p) in (
-      omega arith,
-      s.invariant.1,
+      s.invariant.0,
       ap₂ (λ (w : Round) (y : ℕ). with_sums w (set w.sums s.p y)) e x ∙ ap (with_sums r)
           (added_next r.q r.sums bl s.p (omega arith) c.requires.positive),
     )

@@ -1,4 +1,3 @@
-use Prim.Native.Nat.{◌-◌, ◌≤◌}
 use mathlib.Core.Path.{◌≡◌}
 use lib.ListN.{length}
 use Rattle.rounds.specs.Machine.{with_sums, added_to}
@@ -6,7 +5,4 @@ use Rattle.plans.specs.Plans.{max_length}
 use Rattle.rounds.proofs.Round.add_block.Given as goal
 
 abbrev pub invariant-loop-p : goal.invariant-loop-p
-invariant-loop-p l = (l.p ≤ length l.block) × (length l.initial.self.sums ≡ max_length) × (l.self ≡ with_sums l.initial.self (added_to l.initial.self.q l.p l.initial.self.sums l.block))
-
-abbrev pub decreases-loop-p : goal.decreases-loop-p
-decreases-loop-p l = length l.block - l.p
+invariant-loop-p l = (length l.initial.self.sums ≡ max_length) × (l.self ≡ with_sums l.initial.self (added_to l.initial.self.q l.p l.initial.self.sums l.block))

@@ -1,6 +1,4 @@
 -- The invariant: the numbers written are those of the positions passed.
-use Prim.Native.Nat.{◌-◌}
-use lib.ListN.{length}
 use Rattle.lists.specs.Lists.{at}
 use Rattle.lists.proofs.Filling.{Filling}
 use Rattle.residues.specs.Field.{difference_of}
@@ -9,6 +7,3 @@ use Rattle.signed.proofs.blocks.write_shown.Given as goal
 
 abbrev pub invariant-loop-p : goal.invariant-loop-p
 invariant-loop-p l = Filling (λ k. shown_of l.q (difference_of l.q (at l.upload k) (at l.key k))) l.initial.out l.out l.p
-
-abbrev pub decreases-loop-p : goal.decreases-loop-p
-decreases-loop-p l = length l.out - l.p

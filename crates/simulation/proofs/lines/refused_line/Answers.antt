@@ -9,6 +9,6 @@ use Rattle.simulation.proofs.lines.refused_line.Goals as goal
 
 pub returns : goal.returns
 returns c =
-    let n : ℕ = c.verdict_code-code.result.number in
+    let n : ℕ = c.code_of_result-code.result.number in
     typed-on [] (field n 0x0a) _ _ (omega (arith, field-length n 0x0a)) c.new.ensures c.put_field.ensures
-    ∙ ap refused_line c.verdict_code-code.ensures
+    ∙ ap refused_line c.code_of_result-code.ensures

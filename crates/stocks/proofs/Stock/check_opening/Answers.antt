@@ -1,36 +1,39 @@
-use borrow.Author.Tests.{eq-eqb}
-use mathlib.Core.Bool.{true}
-use Prim.Native.Nat.{◌≤◌}
+use mathlib.Core.Bool.{Bool, true, false, cond, not}
 use mathlib.Core.Path.{◌≡◌, sym, ap, ◌∙◌}
+use borrow.Author.Tests.{eq-eqb, eqb-true}
 use lib.ListN.{length}
+use Rattle.std.specs.Prelude.{Result, Ok, Err}
+use Rattle.refusals.specs.declared.Refusal.{Refusal}
+use Rattle.refusals.specs.declared.Refusal.TheVariants.{OutOfBounds, WrongLength, BadStock}
+use Rattle.refusals.specs.Codes.{code, accepted, code_of_result}
+use Rattle.refusals.proofs.CodeLaws.{held}
 use Rattle.lists.specs.Search.{one_of}
 use Rattle.lists.proofs.Searches.{one_known}
 use Rattle.stocks.specs.Stocks.{max_pools, fits}
-use Rattle.stocks.proofs.StockLaws.{shares_fit, opened-fits}
+use Rattle.stocks.proofs.StockLaws.{opened-fits}
 use Rattle.stocks.proofs.Stock.check_opening.Goals as goal
-use Rattle.stocks.proofs.Stock.check_opening.Goals.{After-is_sound, Else-limits-pools, Else-not-one_of}
+use Rattle.stocks.proofs.Stock.check_opening.Goals.{then-reserves-pools, else-reserves-pools}
 
--- one to eight pools, and a reserve and a limit for each
-counted : (c : Else-not-one_of) → one_of max_pools c.args.pools ≡ true
-counted c = sym c.one_of.ensures ∙ c.if-not-one_of.false
+-- the last check, by whether the stock is sound
+last-code : (b : Bool) (v : Result (Unit {0}) Refusal) → v ≡ cond b (Ok tt) (Err BadStock) → code_of_result v ≡ cond (not b) (code 21) accepted
+last-code true v e = ap code_of_result e
+last-code false v e = ap code_of_result e
 
-few : (c : Else-not-one_of) → (1 ≤ c.args.pools) × (c.args.pools ≤ max_pools)
-few c = one_known max_pools c.args.pools (counted c)
-
--- the stock of which nothing is drawn is sound just where the reserves fit
-shares : (c : After-is_sound)
-    → (let a = c.args in
-    shares_fit a.pools a.reserves.now a.limits.now (length a.stream.now) ≡ c.is_sound.result)
-shares c =
-    let t = (goal.at.After-is_sound c).Else-limits-pools in let a = c.args in
-    let (some, eight) = few (goal.at.Else-limits-pools t).Else-not-one_of in
-    sym (opened-fits a.pools a.reserves.now a.limits.now eight t.if-reserves-pools.false t.if-limits-pools.false (length a.stream.now) some)
-    ∙ sym (c.is_sound.ensures ∙ ap (fits (length a.stream.now)) c.fresh-made.ensures)
-
-pub returns-then-not-is_sound : goal.returns-then-not-is_sound
-returns-then-not-is_sound c =
-    let t = (goal.at.returns-then-not-is_sound c).Else-limits-pools in simp (counted (goal.at.Else-limits-pools t).Else-not-one_of, eq-eqb _ _ t.if-reserves-pools.false, eq-eqb _ _ t.if-limits-pools.false, shares (goal.at.returns-then-not-is_sound c).After-is_sound ∙ c.if-not-is_sound.true)
-
+-- a reserve and a limit for each pool; and the stock of which nothing is drawn is sound just where its reserves fit
 pub returns : goal.returns
 returns c =
-    let t = (goal.at.returns c).Else-limits-pools in simp (counted (goal.at.Else-limits-pools t).Else-not-one_of, eq-eqb _ _ t.if-reserves-pools.false, eq-eqb _ _ t.if-limits-pools.false, shares (goal.at.returns c).After-is_sound ∙ c.if-not-is_sound.false)
+    let a = c.args in
+    let counted : one_of max_pools a.pools ≡ true = sym c.one_of.ensures ∙ held _ tt OutOfBounds c.in_ok-refuse_unless.ensures in
+    let both = held c.if-reserves-pools.refuse_unless tt WrongLength c.in_ok-refuse_unless-2.ensures in
+    let lengths : (length a.reserves.now ≡ a.pools) × (length a.limits.now ≡ a.pools)
+    = elim c.if-reserves-pools.branch [
+      | then-reserves-pools w ↦ (w.if-reserves-pools.true, eqb-true (length a.limits.now) a.pools (sym w.refuse_unless-is ∙ both))
+      | else-reserves-pools w ↦ absurd (w.if-reserves-pools.false (eqb-true (length a.reserves.now) a.pools (sym w.refuse_unless-is ∙ both)))
+    ] in
+    let (some, eight) = one_known max_pools a.pools counted in
+    let sound =
+    c.is_sound.ensures
+    ∙ ap (fits (length a.stream.now)) c.fresh-stock.ensures
+    ∙ opened-fits a.pools a.reserves.now a.limits.now eight lengths.0 lengths.1 (length a.stream.now) some in
+    last-code c.is_sound.result c.refuse_unless-3.result c.refuse_unless-3.ensures
+    ∙ simp (counted, eq-eqb _ _ lengths.0, eq-eqb _ _ lengths.1, sound)

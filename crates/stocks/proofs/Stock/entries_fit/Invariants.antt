@@ -1,12 +1,8 @@
-use Prim.Native.Nat.{◌-◌, ◌≤◌}
 use mathlib.Core.Path.{◌≡◌}
 use mathlib.Core.Bool.{true}
 use Rattle.lists.specs.Search.{all_to}
-use Rattle.stocks.specs.Stocks.{max_pools, entry_fits}
+use Rattle.stocks.specs.Stocks.{entry_fits}
 use Rattle.stocks.proofs.Stock.entries_fit.Given as goal
 
 abbrev pub invariant-loop-i : goal.invariant-loop-i
-invariant-loop-i l = (l.i ≤ max_pools) × (all_to l.i (entry_fits l.self) ≡ true)
-
-abbrev pub decreases-loop-i : goal.decreases-loop-i
-decreases-loop-i l = max_pools - l.i
+invariant-loop-i l = all_to l.i (entry_fits l.self) ≡ true

@@ -14,15 +14,10 @@ loop-i-init c = search rules
 
 pub returns-then-left-mine : goal.returns-then-left-mine
 returns-then-left-mine c =
-    let s = c.loop-i in
     let a = c.args in
+    let i : ℕ = c.loop-i.i in
     let f : ℕ → ℕ = held_by a.self in
-    let all = sum-some (s.i + 1) a.self.pools f (omega (arith, c.loop-i-test.true)) in
-    sym (lt-leb (sum_to a.self.pools f) a.size (omega (arith, all, sum-next s.i f, s.invariant.1, c.if-left-mine.true, c.held_of-mine.ensures)))
+    sym (lt-leb (sum_to a.self.pools f) a.size (omega (arith, sum-some (i + 1) a.self.pools f (omega (arith, c.loop-i-test.true)), sum-next i f, c.held_of-mine.ensures)))
 
 pub loop-i-preserved : goal.loop-i-preserved
-loop-i-preserved c =
-    let s = c.loop-i in
-    let a = c.args in
-    let f : ℕ → ℕ = held_by a.self in
-    (omega (arith, c.loop-i-test.true), omega (arith, sum-next s.i f, s.invariant.1, c.if-left-mine.false, c.held_of-mine.ensures))
+loop-i-preserved c = omega (arith, sum-next c.loop-i.i (held_by c.args.self), c.held_of-mine.ensures)

@@ -1,11 +1,8 @@
-use Prim.Native.Nat.{◌+◌, ◌-◌, ◌≤◌}
+use Prim.Native.Nat.{◌+◌}
 use mathlib.Core.Path.{◌≡◌}
 use Rattle.lists.specs.Sums.{sum_to}
 use Rattle.stocks.specs.Stocks.{held_by}
 use Rattle.stocks.proofs.Stock.fits_on.Given as goal
 
 abbrev pub invariant-loop-i : goal.invariant-loop-i
-invariant-loop-i l = (l.i ≤ l.self.pools) × (l.left + sum_to l.i (held_by l.self) ≡ l.size)
-
-abbrev pub decreases-loop-i : goal.decreases-loop-i
-decreases-loop-i l = l.self.pools - l.i
+invariant-loop-i l = l.left + sum_to l.i (held_by l.self) ≡ l.size

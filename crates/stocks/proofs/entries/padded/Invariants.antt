@@ -1,5 +1,4 @@
 -- The invariant: the array is filled up to i.
-use Prim.Native.Nat.{◌-◌}
 use mathlib.Core.Path.{◌≡◌}
 use lib.ListN.{length}
 use Rattle.lists.specs.Lists.{at}
@@ -9,6 +8,3 @@ use Rattle.stocks.proofs.entries.padded.Given as goal
 
 abbrev pub invariant-loop-i : goal.invariant-loop-i
 invariant-loop-i l = (length l.initial.made ≡ max_pools) × Filling (at l.lent) l.initial.made l.made l.i
-
-abbrev pub decreases-loop-i : goal.decreases-loop-i
-decreases-loop-i l = max_pools - l.i

@@ -6,6 +6,6 @@ pub returns-then-a-lt1 : goal.returns-then-a-lt1
 unfolding outside_of
 returns-then-a-lt1 c = rw (lt-ltb _ _ c.if-a-lt1.true)
 
-pub returns : goal.returns
+pub returns-else-a-lt1 : goal.returns-else-a-lt1
 unfolding outside_of
-returns c = rw (le-ltb _ _ c.if-a-lt1.false)
+returns-else-a-lt1 c = rw (le-ltb _ _ c.if-a-lt1.false)

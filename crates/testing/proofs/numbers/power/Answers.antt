@@ -8,13 +8,13 @@ use Rattle.testing.proofs.numbers.power.Goals as goal
 
 pub loop-k-init : goal.loop-k-init
 unfolding power_of
-loop-k-init c = (omega arith, c.residue-p.ensures)
+loop-k-init c = c.residue-p.ensures
 
 pub loop-k-preserved : goal.loop-k-preserved
 unfolding power_of
-loop-k-preserved c = (omega arith, rw add-one (cc))
+loop-k-preserved c = rw add-one (cc)
 
 pub returns : goal.returns
 returns c =
     let e : c.loop-k.k ≡ c.args.n = omega arith in
-    rw e at c.loop-k.invariant.1
+    rw e at c.loop-k.invariant

@@ -6,6 +6,6 @@ pub returns-then-n-eq0 : goal.returns-then-n-eq0
 unfolding quotient_of
 returns-then-n-eq0 c = simp (eq-eqb _ _ c.if-n-eq0.true)
 
-pub returns : goal.returns
+pub returns-else-n-eq0 : goal.returns-else-n-eq0
 unfolding quotient_of
-returns c = simp (ne_eqb _ _ c.if-n-eq0.false)
+returns-else-n-eq0 c = simp (ne_eqb _ _ c.if-n-eq0.false)

@@ -15,27 +15,27 @@ use Rattle.testing.proofs.slices.count_large.Goals.{then-at-q, else-at-q}
 
 pub loop-i-init : goal.loop-i-init
 unfolding how_many
-loop-i-init c = (omega arith, omega arith, refl)
+loop-i-init c = (omega arith, refl)
 
 pub loop-i-preserved : goal.loop-i-preserved
 loop-i-preserved c =
     let s = c.loop-i in
     let a = c.args in
     let f : ℕ → Bool = λ k. leb a.q (at a.t.now k) in
-    let m : s.n ≡ how_many s.i f = s.invariant.2 in
+    let m : s.n ≡ how_many s.i f = s.invariant.1 in
     elim c.if-at-q.branch [
       | then-at-q w ↦
           let more : c.if-at-q.n ≡ s.n + 1 = omega arith in
           let e : f s.i ≡ true = le-leb a.q (at a.t.now s.i) (omega arith) in
-          (omega arith, omega arith, more ∙ ap (λ (k : ℕ). k + 1) m ∙ sym (counted f s.i e))
+          (omega arith, more ∙ ap (λ (k : ℕ). k + 1) m ∙ sym (counted f s.i e))
       | else-at-q w ↦
           let stays : c.if-at-q.n ≡ s.n = omega arith in
           let e : f s.i ≡ false = lt-leb a.q (at a.t.now s.i) (omega arith) in
-          (omega arith, omega arith, stays ∙ m ∙ sym (passed_over f s.i e))
+          (omega arith, stays ∙ m ∙ sym (passed_over f s.i e))
     ]
 
 pub returns : goal.returns
 unfolding large_of
 returns c =
     let e : c.loop-i.i ≡ length c.args.t.now = omega arith in
-    rw e at c.loop-i.invariant.2
+    rw e at c.loop-i.invariant.1

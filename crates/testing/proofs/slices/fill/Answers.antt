@@ -12,7 +12,7 @@ use Rattle.testing.proofs.slices.fill.Goals as goal
 
 pub loop-i-init : goal.loop-i-init
 unfolding overwritten
-loop-i-init c = (omega arith, refl, refl)
+loop-i-init c = (refl, refl)
 
 pub loop-i-preserved : goal.loop-i-preserved
 loop-i-preserved c =
@@ -22,8 +22,7 @@ loop-i-preserved c =
     let number : c.state.result ≡ state_of a.x s.i = c.state.ensures in
     let value : c.residue.result ≡ residue_of a.q (state_of a.x s.i) = c.residue.ensures ∙ ap
     (residue_of a.q) number in
-    let list : s.t ≡ overwritten s.i f a.t.now = s.invariant.2 in (
-      omega arith,
+    let list : s.t ≡ overwritten s.i f a.t.now = s.invariant.1 in (
       refl,
       c.put.ensures ∙ ap₂ (λ (l : List ℕ) (v : ℕ). replaced l s.i (symbol_of v)) list value ∙ sym
           (written_next f a.t.now s.i),
@@ -33,4 +32,4 @@ pub returns : goal.returns
 unfolding filled
 returns c =
     let e : c.loop-i.i ≡ length c.args.t.now = omega arith in
-    rw e at c.loop-i.invariant.2
+    rw e at c.loop-i.invariant.1

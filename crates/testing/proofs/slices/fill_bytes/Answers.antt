@@ -12,7 +12,7 @@ use Rattle.testing.proofs.slices.fill_bytes.Goals as goal
 
 pub loop-i-init : goal.loop-i-init
 unfolding overwritten
-loop-i-init c = (omega arith, refl, refl)
+loop-i-init c = (refl, refl)
 
 pub loop-i-preserved : goal.loop-i-preserved
 loop-i-preserved c =
@@ -20,8 +20,7 @@ loop-i-preserved c =
     let a = c.args in
     let f : ℕ → ℕ = λ k. drawn_of a.x k % 256 in
     let number : c.drawn.result ≡ drawn_of a.x s.i = c.drawn.ensures in
-    let list : s.b ≡ overwritten s.i f a.b.now = s.invariant.2 in (
-      omega arith,
+    let list : s.b ≡ overwritten s.i f a.b.now = s.invariant.1 in (
       refl,
       c.put_byte.ensures ∙ ap₂ (λ (l : List ℕ) (v : ℕ). replaced l s.i (v % 256)) list number ∙ sym
           (written_next f a.b.now s.i),
@@ -31,4 +30,4 @@ pub returns : goal.returns
 unfolding filled_bytes
 returns c =
     let e : c.loop-i.i ≡ length c.args.b.now = omega arith in
-    rw e at c.loop-i.invariant.2
+    rw e at c.loop-i.invariant.1

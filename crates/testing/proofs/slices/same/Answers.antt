@@ -14,7 +14,7 @@ use Rattle.testing.proofs.slices.same.Goals as goal
 
 pub loop-i-init : goal.loop-i-init
 unfolding all_to
-loop-i-init c = (omega arith, refl)
+loop-i-init c = refl
 
 pub returns-then-at : goal.returns-then-at
 unfolding same_front
@@ -29,11 +29,11 @@ loop-i-preserved c =
     let a = c.args in
     let s = c.loop-i in
     let f : ℕ → Bool = λ k. eqb (at a.s.now k) (at a.t.now k) in
-    (omega arith, all-next f s.i s.invariant.1 (eq-eqb _ _ (sym c.at.ensures ∙ c.if-at.false ∙ c.at-in-loop-i.ensures)))
+    all-next f s.i s.invariant (eq-eqb _ _ (sym c.at.ensures ∙ c.if-at.false ∙ c.at-in-loop-i.ensures))
 
 pub returns : goal.returns
 unfolding same_front
 returns c =
     let a = c.args in
     let e : c.loop-i.i ≡ length a.s.now = omega arith in
-    sym (rw e at c.loop-i.invariant.1)
+    sym (rw e at c.loop-i.invariant)

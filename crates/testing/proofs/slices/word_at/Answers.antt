@@ -8,12 +8,12 @@ use Rattle.testing.proofs.slices.word_at.Goals as goal
 
 -- Bytes are below 256, so that the sum fits.
 
-pub returns-then-i-b : goal.returns-then-i-b
+pub returns-else-i-b : goal.returns-else-i-b
 unfolding at word_at
-returns-then-i-b c =
+returns-else-i-b c =
     let b : List ℕ = c.args.b.now in
     let i : ℕ = c.args.i in
-    omega (arith, get_or-eq_default b 0 {n = i} c.if-i-b.true, get_or-eq_default b 0 {n = i + 1} (omega (arith, c.if-i-b.true)))
+    omega (arith, get_or-eq_default b 0 {n = i} c.if-i-b.false, get_or-eq_default b 0 {n = i + 1} (omega (arith, c.if-i-b.false)))
 
 pub overflow_mul-result : goal.overflow_mul-result
 unfolding at
@@ -25,6 +25,6 @@ unfolding at
 overflow_add-result c =
     omega (arith, c.type_inv.b c.args.i, c.type_inv.b (c.args.i + 1))
 
-pub returns : goal.returns
+pub returns-then-i-b : goal.returns-then-i-b
 unfolding word_at
-returns c = search rules
+returns-then-i-b c = search rules

@@ -13,11 +13,11 @@ returns-then-n-lt10 t c =
     let a = c.args in
     c.put.ensures ∙ ap (typed a.self) (sym (one-digit a.n (omega (arith, c.if-n-lt10.true))))
 
-pub returns : goal.returns
-returns t c =
+pub returns-else-n-lt10 : goal.returns-else-n-lt10
+returns-else-n-lt10 t c =
     let a = c.args in
     let last : List ℕ = (0x30 + a.n % 10) ∷ [] in
-    c.put-2.ensures
-    ∙ ap (λ (l : Line). typed l last) c.put_decimal-line.ensures
+    c.put-else-n-lt10.ensures
+    ∙ ap (λ (l : Line). typed l last) c.put_decimal.ensures
     ∙ sym (typed-append a.self (decimal (a.n / 10)) last)
     ∙ ap (typed a.self) (sym (last-digit a.n (omega arith) (omega (arith, c.if-n-lt10.false))))

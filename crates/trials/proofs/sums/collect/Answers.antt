@@ -26,16 +26,14 @@ loop-u-preserved c =
     let h = c.loop-u-test.true in
     let head : drop s.u F ≡ own s.u ∷ drop (suc s.u) F =
     drop-cons F s.u (own 0) (omega (arith, h, length-tab (length L) own))
-    ∙ ap (λ (f : Frame). f ∷ drop (suc s.u) F) (get-tab (length L) own (own 0) s.u h) in (
-      omega (arith, h),
-      ap (λ (R : ServerRound). server_run R (drop (s.u + 1) F))
-          (c.count-step.ensures.round
-          ∙ ap (λ (k : ℕ). server_next s.round (frame (s.u + 1) a.number (take k (drop s.u L)))) (add-sub_cancel_left s.u 1)
-          ∙ ap (λ (k : ℕ). server_next s.round (frame k a.number (take 1 (drop s.u L)))) (add-one s.u))
-          ∙ ap (λ (k : ℕ). server_run (server_next s.round (own s.u)) (drop k F)) (add-one s.u)
-          ∙ sym (ap (server_run s.round) head)
-          ∙ s.invariant.1,
-    )
+    ∙ ap (λ (f : Frame). f ∷ drop (suc s.u) F) (get-tab (length L) own (own 0) s.u h) in
+    ap (λ (R : ServerRound). server_run R (drop (s.u + 1) F))
+    (c.count.ensures.round
+    ∙ ap (λ (k : ℕ). server_next s.round (frame (s.u + 1) a.number (take k (drop s.u L)))) (add-sub_cancel_left s.u 1)
+    ∙ ap (λ (k : ℕ). server_next s.round (frame k a.number (take 1 (drop s.u L)))) (add-one s.u))
+    ∙ ap (λ (k : ℕ). server_run (server_next s.round (own s.u)) (drop k F)) (add-one s.u)
+    ∙ sym (ap (server_run s.round) head)
+    ∙ s.invariant
 
 pub returns : goal.returns
 unfolding server_run
@@ -49,5 +47,4 @@ returns c =
       length-tab (length a.sums.now)
           (λ u. frame (suc u) a.number (take 1 (drop u a.sums.now))),
     ))))
-    ∙ s.invariant.1
-    ∙ ap (λ (R : ServerRound). server_run R F) c.open-opened.ensures.round
+    ∙ s.invariant

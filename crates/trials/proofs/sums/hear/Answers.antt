@@ -12,7 +12,7 @@ use Rattle.trials.proofs.sums.hear.Goals as goal
 pub returns : goal.returns
 returns c =
     let a = c.args in
-    c.count-step.ensures.round
+    c.count.ensures.round
     ∙ ap (λ (k : ℕ). relay_next a.round (frame (a.user % a.plan.size + 1) a.number (take k (drop a.user a.uploads.now))))
     (add-sub_cancel_left a.user 1)
     ∙ sym (ap (λ (b : Bool). cond b (relay_next a.round (frame_of a.plan a.cluster a.number a.uploads.now a.user)) a.round)

@@ -4,6 +4,7 @@ use Prim.Native.Nat.{◌+◌, ◌-◌}
 use native.Mathlib.Omega.{arith}
 use Rattle.lists.proofs.Filling.{filling-none, filling-next}
 use Rattle.trials.proofs.sums.relay_sums.Invariants.{sum_of}
+use Rattle.trials.proofs.RelayLaws.{handed-over}
 use Rattle.trials.proofs.sums.relay_sums.Goals as goal
 
 pub loop-u-init : goal.loop-u-init
@@ -14,5 +15,5 @@ loop-u-preserved c =
     let s = c.loop-u in
     let a = c.args in
     let e : s.u + 1 - 1 ≡ s.u = omega arith in
-    filling-next (sum_of a.plan a.uploads.now) _ s.sums s.u c.relay_sum.result s.invariant c.loop-u-test.true
-    (c.relay_sum.ensures ∙ ap (sum_of a.plan a.uploads.now) e)
+    filling-next (sum_of a.plan a.uploads.now) _ s.sums s.u c.in_ok-sum.field-0 s.invariant (omega (arith, c.loop-u-test.true, s.auto.sums))
+    (handed-over c.in_ok-sum.ensures ∙ ap (sum_of a.plan a.uploads.now) e)

@@ -1,7 +1,6 @@
 -- The invariant: the sums written are those of the relays passed.
 use mathlib.Core.List.{List}
-use Prim.Native.Nat.{ℕ, ◌+◌, ◌-◌, ◌*◌, ◌%◌}
-use lib.ListN.{length}
+use Prim.Native.Nat.{ℕ, ◌+◌, ◌*◌, ◌%◌}
 use Rattle.lists.specs.Lists.{at}
 use Rattle.lists.specs.Sums.{sum_to}
 use Rattle.lists.proofs.Filling.{Filling}
@@ -13,6 +12,3 @@ sum_of P uploads u = sum_to P.size (λ v. at uploads (u * P.size + v)) % P.q
 
 abbrev pub invariant-loop-u : goal.invariant-loop-u
 invariant-loop-u l = Filling (sum_of l.plan l.uploads) l.initial.sums l.sums l.u
-
-abbrev pub decreases-loop-u : goal.decreases-loop-u
-decreases-loop-u l = length l.sums - l.u

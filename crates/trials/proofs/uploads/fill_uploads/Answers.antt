@@ -8,7 +8,7 @@ use Rattle.lists.specs.Lists.{at}
 use Rattle.lists.proofs.Filling.{filling-none, filling-next}
 use Rattle.lists.proofs.Fronts.{length_part, part_at}
 use Rattle.trials.proofs.MaskLaws.{some-symbols}
-use Rattle.trials.proofs.RelayLaws.{part-below}
+use Rattle.trials.proofs.RelayLaws.{handed-over, part-below}
 use Rattle.trials.proofs.uploads.fill_uploads.Invariants.{sent}
 use Rattle.trials.proofs.uploads.fill_uploads.Goals as goal
 
@@ -17,7 +17,7 @@ loop-i-init c = filling-none _ _ 0 refl
 
 pub upload-requires : goal.upload-requires
 upload-requires c =
-    let in-keys : suc c.loop-i.i ≤ length c.args.keys.now = omega (arith, c.loop-i-test.true, c.loop-i.invariant.whole, c.requires.2) in
+    let in-keys : suc c.loop-i.i ≤ length c.args.keys.now = omega (arith, c.loop-i-test.true, c.requires.2) in
     let s = c.loop-i in
     let w : ℕ = s.i + 1 - s.i in
     let one : w ≡ 1 = add-sub_cancel_left s.i 1 in
@@ -34,7 +34,7 @@ loop-i-preserved c =
     let a = c.args in
     let w : ℕ = s.i + 1 - s.i in
     let e : s.i + 0 ≡ s.i = omega arith in
-    filling-next (sent a.plan a.readings.now a.keys.now) _ s.uploads s.i c.upload.result s.invariant c.loop-i-test.true
-    (c.upload.ensures
+    filling-next (sent a.plan a.readings.now a.keys.now) _ s.uploads s.i c.in_ok-sent.field-0 s.invariant (omega (arith, c.loop-i-test.true, s.auto.uploads))
+    (handed-over c.in_ok-sent.ensures
     ∙ ap (λ (x : ℕ). (at a.readings.now s.i + x) % a.plan.q)
     (part_at w s.i a.keys.now 0 (omega arith) ∙ ap (at a.keys.now) e))

@@ -8,18 +8,17 @@ use Rattle.lists.specs.Lists.{at}
 use Rattle.lists.specs.Sums.{sum_to}
 use Rattle.trials.proofs.uploads.true_sum.Goals as goal
 
-pub loop-i-init : goal.loop-i-init
+pub loop-reading-init : goal.loop-reading-init
 unfolding sum_to
-loop-i-init c = (omega arith, refl, omega arith)
+loop-reading-init c = (refl, omega arith)
 
-pub loop-i-preserved : goal.loop-i-preserved
+pub loop-reading-preserved : goal.loop-reading-preserved
 unfolding sum_to
-loop-i-preserved c =
-    let next : (let s = c.loop-i in s.sum + at c.args.readings.now s.i ≤ 32767 * (s.i + 1)) = let s = c.loop-i in
-    omega (arith, s.invariant.2, c.requires.1 s.i) in
-    let s = c.loop-i in
+loop-reading-preserved c =
+    let next : (let s = c.loop-reading in s.sum + at c.args.readings.now s.reading-index ≤ 32767 * (s.reading-index + 1)) = let s = c.loop-reading in
+    omega (arith, s.invariant.1, c.requires.1 s.reading-index) in
+    let s = c.loop-reading in
     let L : List ℕ = c.args.readings.now in (
-      omega (arith, c.loop-i-test.true),
-      ap (λ (x : ℕ). x + at L s.i) s.invariant.1 ∙ ap (λ (n : ℕ). sum_to n (at L)) (sym (add-one s.i)),
+      ap (λ (x : ℕ). x + at L s.reading-index) s.invariant.0 ∙ ap (λ (n : ℕ). sum_to n (at L)) (sym (add-one s.reading-index)),
       next,
     )

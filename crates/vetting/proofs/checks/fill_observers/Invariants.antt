@@ -1,6 +1,5 @@
 -- The invariant: the observers written are those of the places passed; the last is 0.
-use Prim.Native.Nat.{ℕ, ◌+◌, ◌-◌, ◌%◌}
-use lib.ListN.{length}
+use Prim.Native.Nat.{ℕ, ◌+◌, ◌%◌}
 use Rattle.lists.proofs.Filling.{Filling}
 use Rattle.vetting.proofs.checks.fill_observers.Given as goal
 
@@ -10,6 +9,3 @@ placed n i = (i + 1) % n
 
 abbrev pub invariant-loop-i : goal.invariant-loop-i
 invariant-loop-i l = Filling (placed l.n) l.initial.watching l.watching l.i
-
-abbrev pub decreases-loop-i : goal.decreases-loop-i
-decreases-loop-i l = length l.watching - l.i

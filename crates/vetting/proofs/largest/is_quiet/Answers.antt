@@ -10,7 +10,7 @@ use Rattle.vetting.proofs.largest.is_quiet.Goals as goal
 
 pub loop-w-init : goal.loop-w-init
 unfolding all_to
-loop-w-init c = (omega arith, refl)
+loop-w-init c = refl
 
 pub returns-then-leaks_to : goal.returns-then-leaks_to
 unfolding is_quiet_at
@@ -21,15 +21,13 @@ returns-then-leaks_to c =
 
 pub loop-w-preserved : goal.loop-w-preserved
 loop-w-preserved c =
-    let a = c.args in (
-      omega (arith, c.loop-w-test.true),
-      all-next (test a.q a.clusters a.size a.cols a.k a.g a.levels.now) c.loop-w.w
-          c.loop-w.invariant.1 (ap not (sym c.leaks_to.ensures ∙ c.if-leaks_to.false)),
-    )
+    let a = c.args in
+    all-next (test a.q a.clusters a.size a.cols a.k a.g a.levels.now) c.loop-w.w
+    c.loop-w.invariant (ap not (sym c.leaks_to.ensures ∙ c.if-leaks_to.false))
 
 pub returns : goal.returns
 unfolding is_quiet_at
 returns c =
     let a = c.args in
-    let e : c.loop-w.w ≡ a.clusters + 1 = omega (arith, c.loop-w-test.false, c.loop-w.invariant.0) in
-    sym (ap (λ (n : ℕ). all_to n (test a.q a.clusters a.size a.cols a.k a.g a.levels.now)) (sym e) ∙ c.loop-w.invariant.1)
+    let e : c.loop-w.w ≡ a.clusters + 1 = omega (arith, c.loop-w-test.false, c.loop-w.auto.w-end) in
+    sym (ap (λ (n : ℕ). all_to n (test a.q a.clusters a.size a.cols a.k a.g a.levels.now)) (sym e) ∙ c.loop-w.invariant)

@@ -2,7 +2,7 @@
 use mathlib.Core.Path.{◌≡◌}
 use mathlib.Core.Bool.{Bool, true}
 use mathlib.Core.List.{List}
-use Prim.Native.Nat.{ℕ, ◌+◌, ◌-◌, ◌*◌, ◌≤◌}
+use Prim.Native.Nat.{ℕ, ◌+◌, ◌*◌}
 use Rattle.lists.specs.Search.{all_to}
 use Rattle.plans.specs.Plans.{plan}
 use Rattle.vetting.specs.Walking.{level_at}
@@ -13,7 +13,4 @@ abbrev pub test : ℕ → ℕ → ℕ → ℕ → ℕ → ℕ → List ℕ → �
 test q clusters size cols k g L = quiet_to (plan clusters size 0 cols q) g (level_at ((clusters * size + clusters) * cols) L k)
 
 abbrev pub invariant-loop-w : goal.invariant-loop-w
-invariant-loop-w l = (l.w ≤ l.clusters + 1) × (all_to l.w (test l.q l.clusters l.size l.cols l.k l.g l.levels) ≡ true)
-
-abbrev pub decreases-loop-w : goal.decreases-loop-w
-decreases-loop-w l = l.clusters + 1 - l.w
+invariant-loop-w l = all_to l.w (test l.q l.clusters l.size l.cols l.k l.g l.levels) ≡ true

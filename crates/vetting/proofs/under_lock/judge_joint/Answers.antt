@@ -9,8 +9,8 @@ use Rattle.vetting.proofs.VetLaws.{passed, joint-found}
 use Rattle.vetting.proofs.under_lock.judge_joint.Goals as goal
 use Rattle.vetting.proofs.under_lock.judge_joint.Goals.{Start}
 
-pub find_leak-walked-requires : goal.find_leak-walked-requires
-find_leak-walked-requires c =
+pub find_leak-requires : goal.find_leak-requires
+find_leak-requires c =
     let p = passed c.args.plan c.args.table.now c.requires.0 in
     (p.bounds, p.size, prime-pos p.prime, omega arith)
 
@@ -20,5 +20,5 @@ returns c =
     let masked = c.joint_mask-both in
     c.joint_told.ensures
     ∙ ap (λ (w : Walked). joint_found w.found)
-    (c.find_leak-walked.ensures ∙ ap (λ (m : ℕ). walked a.plan m ((a.plan.clusters + 1) ∷ []) (base_table a.plan a.table.now)) masked.ensures)
-    ∙ joint-found a.plan a.table.now c.requires.0 a.first a.second
+    (c.find_leak.ensures ∙ ap (λ (m : ℕ). walked a.plan m ((a.plan.clusters + 1) ∷ []) (base_table a.plan a.table.now)) masked.ensures)
+    ∙ joint-found a.plan a.table.now c.requires.0 a.pair.first a.pair.second

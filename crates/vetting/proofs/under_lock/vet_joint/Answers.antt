@@ -1,15 +1,14 @@
-use mathlib.Core.Path.{◌∙◌}
-use Rattle.refusals.proofs.Answers.{refuses}
+use mathlib.Core.Path.{sym, ap, ◌∙◌}
+use Rattle.refusals.specs.Codes.{is_accepted}
+use Rattle.refusals.proofs.CodeLaws.{refusal-refuses}
 use Rattle.vetting.proofs.JointLaws.{before-refuses}
 use Rattle.vetting.proofs.under_lock.vet_joint.Goals as goal
-use Rattle.vetting.proofs.under_lock.vet_joint.Goals.{Then-is_accepted}
 
-pub returns : goal.returns
-returns c =
+pub returns-in-Err : goal.returns-in-Err
+returns-in-Err c =
     let a = c.args in
-    let checked = c.check_before-before in
-    let same = before-refuses a.plan a.table.now a.joint
-    (refuses checked.result checked.ensures c.is_accepted.ensures c.if-is_accepted.false) in record {
-      code = checked.ensures ∙ same.0;
+    let refused = c.in-Err.ensures in
+    let same = before-refuses a.plan a.table.now a.joint (ap is_accepted (sym refused) ∙ refusal-refuses c.in-Err.refusal) in record {
+      code = refused ∙ same.0;
       looked = same.1;
     }

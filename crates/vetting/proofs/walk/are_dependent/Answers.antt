@@ -18,8 +18,8 @@ room c =
     few-numbers c.gather-n.result c.args.cols
     (omega (arith, c.gather-n.ensures.0, many-most (chosen c.args.watch c.args.skip) c.args.rows, c.requires.0)) c.requires.1
 
-pub overflow_mul-m : goal.overflow_mul-m
-overflow_mul-m c = omega (arith, room (goal.at.overflow_mul-m c).After-gather-n)
+pub overflow_mul-s : goal.overflow_mul-s
+overflow_mul-s c = omega (arith, room (goal.at.overflow_mul-s c).After-gather-n)
 
 pub slice_bounds-s-end : goal.slice_bounds-s-end
 slice_bounds-s-end c = omega (arith, room (goal.at.slice_bounds-s-end c).After-gather-n)

@@ -15,4 +15,4 @@ pub returns-else-watch-i-eq1 : goal.returns-else-watch-i-eq1
 unfolding has_bit
 returns-else-watch-i-eq1 c =
     let a = c.args in
-    rw (ne_eqb (a.watch / 2 ^ a.i % 2) 1 (λ e. c.if-watch-i-eq1.false (and_mask (a.watch / 2 ^ a.i) 1 ∙ e)))
+    rw (and_mask (a.watch / 2 ^ a.i) 1) (rw (ne_eqb (a.watch / 2 ^ a.i % 2) 1 (λ e. c.if-watch-i-eq1.false (and_mask (a.watch / 2 ^ a.i) 1 ∙ e))) refl)

@@ -37,13 +37,13 @@ low : (c : In-loop-i) → c.loop-i.i < 16
 low c = omega (arith, c.loop-i-test.true, c.requires.0)
 
 pub loop-i-init : goal.loop-i-init
-loop-i-init c = (omega arith, joint-none c.args.size c.args.first c.args.second)
+loop-i-init c = joint-none c.args.size c.args.first c.args.second
 
 pub overflow_add-mask : goal.overflow_add-mask
 overflow_add-mask c =
     let s = c.loop-i in
     let a = c.args in
-    let l : s.mask < 2 ^ s.i = subst (λ (n : ℕ). n < 2 ^ s.i) (sym s.invariant.1) (joint-below a.size a.first a.second s.i) in
+    let l : s.mask < 2 ^ s.i = subst (λ (n : ℕ). n < 2 ^ s.i) (sym s.invariant) (joint-below a.size a.first a.second s.i) in
     let few : s.i ≤ 16 = omega (arith, low (goal.at.overflow_add-mask c).In-loop-i) in
     rw (one_shl 32 s.i (omega arith)) (omega (arith, pow_mono few))
 
@@ -52,18 +52,16 @@ loop-i-preserved c =
     let s = c.loop-i in
     let a = c.args in
     let u : ℕ = s.i / a.size in
-    let few : s.i < 16 = low (goal.at.loop-i-preserved c).In-loop-i in (
-      omega (arith, c.loop-i-test.true),
-      elim c.if-u-first.branch [
-        | then-u-first w ↦
-            let e : in_either a.size a.first a.second s.i ≡ true =
-            elim w.then-u-first.branch [
-              | then-u-first-via-then-u-first v ↦ ap (λ (t : Bool). t || eqb u a.second) (eq-eqb u a.first v.if-u-first.true)
-              | then-u-first-via-else-u-first+then-u-second v ↦ ap₂ ◌||◌ (ne_eqb u a.first v.if-u-first.false) (eq-eqb u a.second v.if-u-second.true)
-            ] in
-            w.mask-is ∙ ap₂ ◌+◌ s.invariant.1 (one_shl 32 s.i (omega arith) ∙ one-mul (2 ^ s.i)) ∙ sym (joint-next a.size a.first a.second s.i true e)
-        | else-u-first+else-u-second w ↦
-            let e : in_either a.size a.first a.second s.i ≡ false = ap₂ ◌||◌ (ne_eqb u a.first w.if-u-first.false) (ne_eqb u a.second w.if-u-second.false) in
-            w.mask-is ∙ s.invariant.1 ∙ sym (joint-next a.size a.first a.second s.i false e ∙ add-zero (joint_mask a.size a.first a.second s.i))
-      ],
-    )
+    let few : s.i < 16 = low (goal.at.loop-i-preserved c).In-loop-i in
+    elim c.if-u-first.branch [
+      | then-u-first w ↦
+          let e : in_either a.size a.first a.second s.i ≡ true =
+          elim w.then-u-first.branch [
+            | then-u-first-via-then-u-first v ↦ ap (λ (t : Bool). t || eqb u a.second) (eq-eqb u a.first v.if-u-first.true)
+            | then-u-first-via-else-u-first+then-u-second v ↦ ap₂ ◌||◌ (ne_eqb u a.first v.if-u-first.false) (eq-eqb u a.second v.if-u-second.true)
+          ] in
+          w.mask-is ∙ ap₂ ◌+◌ s.invariant (one_shl 32 s.i (omega arith) ∙ one-mul (2 ^ s.i)) ∙ sym (joint-next a.size a.first a.second s.i true e)
+      | else-u-first+else-u-second w ↦
+          let e : in_either a.size a.first a.second s.i ≡ false = ap₂ ◌||◌ (ne_eqb u a.first w.if-u-first.false) (ne_eqb u a.second w.if-u-second.false) in
+          w.mask-is ∙ s.invariant ∙ sym (joint-next a.size a.first a.second s.i false e ∙ add-zero (joint_mask a.size a.first a.second s.i))
+    ]

@@ -1,11 +1,7 @@
 -- The invariant: the users below i that are in one of the two clusters.
 use mathlib.Core.Path.{◌≡◌}
-use Prim.Native.Nat.{◌-◌, ◌≤◌}
 use Rattle.vetting.specs.Walking.{joint_mask}
 use Rattle.vetting.proofs.walk.joint_mask.Given as goal
 
 abbrev pub invariant-loop-i : goal.invariant-loop-i
-invariant-loop-i l = (l.i ≤ l.users) × (l.mask ≡ joint_mask l.size l.first l.second l.i)
-
-abbrev pub decreases-loop-i : goal.decreases-loop-i
-decreases-loop-i l = l.users - l.i
+invariant-loop-i l = l.mask ≡ joint_mask l.size l.first l.second l.i

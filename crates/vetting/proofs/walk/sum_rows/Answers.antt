@@ -1,10 +1,9 @@
-use mathlib.Core.Path.{◌≡◌, refl, ap, ◌∙◌}
+use mathlib.Core.Path.{◌≡◌, ap, ◌∙◌}
 use mathlib.Core.List.{List}
 use Prim.Native.Nat.{ℕ, ◌+◌, ◌-◌, ◌*◌, ◌≤◌}
 use native.Mathlib.Omega.{arith}
 use lib.ListN.{length, take, drop, length-drop}
 use lib.Seq.{length-take-le}
-use borrow.Rule.Slice.PartMut.{same_len_mid}
 use Rattle.lists.specs.Lists.{tab}
 use Rattle.lists.proofs.ListLaws.{length-tab}
 use Rattle.vetting.specs.Walking.{cluster_sum}
@@ -17,14 +16,14 @@ pub loop-u-init : goal.loop-u-init
 loop-u-init c =
     let a = c.args in
     let z : 0 * a.rate ≡ 0 = omega arith in
-    (omega arith, refl, ap (λ (k : ℕ). take k a.out.now) z ∙ join-none (λ u. tab a.rate (cluster_sum a.q a.size a.rate a.table.now u)))
+    ap (λ (k : ℕ). take k a.out.now) z ∙ join-none (λ u. tab a.rate (cluster_sum a.q a.size a.rate a.table.now u))
 
 -- row u lies in the list
 fits : (c : In-loop-u) → (let a = c.args in c.loop-u.u * a.rate + a.rate ≤ length
     c.loop-u.out)
 fits c =
     let s = c.loop-u in
-    room c.args.clusters c.args.rate s.u (length s.out) c.loop-u-test.true (omega (arith, c.requires.2, s.invariant.1))
+    room c.args.clusters c.args.rate s.u (length s.out) c.loop-u-test.true (omega (arith, c.requires.2, s.auto.out))
 
 pub loop-u-preserved : goal.loop-u-preserved
 loop-u-preserved c =
@@ -36,8 +35,5 @@ loop-u-preserved c =
     let y : List ℕ = c.sum_row.new.out in
     let l : length (f s.u) ≡ a.rate = length-tab a.rate (cluster_sum a.q a.size a.rate a.table.now s.u) in
     let t : length (take k (drop b s.out)) ≡ k = length-take-le k (drop b s.out)
-    (omega (arith, fits (goal.at.loop-u-preserved c).In-loop-u, length-drop b s.out)) in (
-      omega (arith, c.loop-u-test.true),
-      same_len_mid b k s.out y (ap length c.sum_row.ensures ∙ omega arith) ∙ s.invariant.1,
-      join-next f a.rate s.u s.out y _ (omega (arith, fits (goal.at.loop-u-preserved c).In-loop-u)) l c.sum_row.ensures s.invariant.2,
-    )
+    (omega (arith, fits (goal.at.loop-u-preserved c).In-loop-u, length-drop b s.out)) in
+    join-next f a.rate s.u s.out y _ (omega (arith, fits (goal.at.loop-u-preserved c).In-loop-u)) l c.sum_row.ensures s.invariant

@@ -1,14 +1,10 @@
 -- The invariant: the sums of the clusters passed stand at the front.
 use mathlib.Core.Path.{◌≡◌}
-use Prim.Native.Nat.{◌-◌, ◌*◌, ◌≤◌}
-use lib.ListN.{length, take}
+use Prim.Native.Nat.{◌*◌}
+use lib.ListN.{take}
 use Rattle.lists.specs.Lists.{tab, join_to}
 use Rattle.vetting.specs.Walking.{cluster_sum}
 use Rattle.vetting.proofs.walk.sum_rows.Given as goal
 
 abbrev pub invariant-loop-u : goal.invariant-loop-u
-invariant-loop-u l = (l.u ≤ l.clusters) × (length l.out ≡ length l.initial.out)
-    × (take (l.u * l.rate) l.out ≡ join_to l.u (λ u. tab l.rate (cluster_sum l.q l.size l.rate l.table u)))
-
-abbrev pub decreases-loop-u : goal.decreases-loop-u
-decreases-loop-u l = l.clusters - l.u
+invariant-loop-u l = take (l.u * l.rate) l.out ≡ join_to l.u (λ u. tab l.rate (cluster_sum l.q l.size l.rate l.table u))

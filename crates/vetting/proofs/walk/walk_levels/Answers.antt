@@ -18,7 +18,7 @@ use Rattle.vetting.proofs.WalkLaws.{pairs_from, pairs-are, pairs-kept, pairs-ski
 use Rattle.vetting.proofs.walk.walk_levels.Invariants.{base, rest, most_observers}
 use Rattle.vetting.proofs.walk.walk_levels.Goals as goal
 use Rattle.vetting.proofs.walk.walk_levels.Goals.{After-leaks_to, At-walk, Else-g-top, Joined-g-ne0, Joined-k-limit, Start, Then-k-limit}
-use Rattle.vetting.proofs.walk.walk_levels.Goals.{then-g-ne0, else-g-ne0, then-k-limit+else-loop-w-test, else-k-limit}
+use Rattle.vetting.proofs.walk.walk_levels.Goals.{then-g-ne0, else-g-ne0, then-k-limit+else-loop-observer-test, else-k-limit}
 
 -- what the call is about: the observers, the table, the pairs after a coalition, and over a table the test of a pair and the walk
 abbrev watching_of : Start → List ℕ
@@ -86,13 +86,13 @@ full c =
 -- the test of an observer is that of the definition
 tested : (c : After-leaks_to)
     → (let s₀ = (goal.at.After-leaks_to c).Start in let a = s₀.args in
-    c.leaks_to.result ≡ hit_of s₀ (base a.clusters a.size a.cols c.if-g-ne0.levels) c.walk.g (at (watching_of s₀) c.loop-w.w))
+    c.leaks_to.result ≡ hit_of s₀ (base a.clusters a.size a.cols c.if-g-ne0.levels) c.walk.g (at (watching_of s₀) c.loop-observer.observer-index))
 tested c =
     let s₀ = (goal.at.After-leaks_to c).Start in
     let a = s₀.args in
     let rows : ℕ = a.clusters * a.size + a.clusters in
     let g : ℕ = c.walk.g in
-    let w : ℕ = at (watching_of s₀) c.loop-w.w in
+    let w : ℕ = at (watching_of s₀) c.loop-observer.observer-index in
     let G = full (goal.at.After-leaks_to c).Joined-g-ne0 in
     c.leaks_to.ensures
     ∙ ap (dependent a.q rows a.cols (watch_mask a.clusters a.size a.both g w) g)
@@ -109,7 +109,7 @@ joined c =
     let rows : ℕ = a.clusters * a.size + a.clusters in
     let T : List ℕ = (base_of s₀) in
     elim c.if-k-limit.branch [
-      | then-k-limit+else-loop-w-test w ↦
+      | then-k-limit+else-loop-observer-test w ↦
           elim w.if-g-ne0.branch [
             | then-g-ne0 v ↦
                 subst (λ (X : List ℕ). Full a.q rows a.cols a.limit T X g) (sym (w.levels-is ∙ v.levels-is ∙ v.descend.ensures.1))
@@ -133,15 +133,15 @@ over c =
     let i = c.walk.invariant in
     let R : List Pair = rest_of s₀ g in
     elim c.if-k-limit.branch [
-      | then-k-limit+else-loop-w-test w ↦
+      | then-k-limit+else-loop-observer-test w ↦
           let L : List ℕ = w.if-g-ne0.levels in
-          let n : ℕ = w.loop-w.looked in
+          let n : ℕ = w.loop-observer.looked in
           let F : Full a.q (a.clusters * a.size + a.clusters) a.cols a.limit (base_of s₀) L g
           = subst (λ (X : List ℕ). Full a.q (a.clusters * a.size + a.clusters) a.cols a.limit (base_of s₀) X g) w.levels-is (joined c) in
           ap (λ (n : ℕ). first_hit (hit_of s₀ (base_of s₀)) n R) w.looked-is
           ∙ subst (λ (X : List ℕ). first_hit (hit_of s₀ X) n R ≡ walked_of s₀ X) F.base
           (ap (λ (l : List ℕ). first_hit (hit_of s₀ (base a.clusters a.size a.cols L)) n (map (pair_of g) l ++ R))
-          (sym (drop_of_length-le (watching_of s₀) w.loop-w-test.false)) ∙ w.loop-w.invariant.2)
+          (sym (drop_of_length-le (watching_of s₀) w.loop-observer-test.false)) ∙ w.loop-observer.invariant.1)
       | else-k-limit w ↦
           ap (λ (n : ℕ). first_hit (hit_of s₀ (base_of s₀)) n R) w.looked-is
           ∙ ap (first_hit (hit_of s₀ (base_of s₀)) c.walk.looked)
@@ -153,7 +153,7 @@ over c =
 few : (c : Joined-k-limit) → c.if-k-limit.looked ≤ (c.walk.g + 1) * most_observers
 few c =
     elim c.if-k-limit.branch [
-      | then-k-limit+else-loop-w-test w ↦ omega (arith, w.loop-w.invariant.0, w.loop-w.invariant.1, c.requires.5)
+      | then-k-limit+else-loop-observer-test w ↦ omega (arith, w.loop-observer.invariant.0, c.requires.5)
       | else-k-limit w ↦ omega (arith, c.walk.invariant.2)
     ]
 
@@ -190,32 +190,30 @@ descend-requires c =
           d.walk.g (small d),
     )
 
-pub loop-w-init : goal.loop-w-init
-loop-w-init c =
-    let s₀ = (goal.at.loop-w-init c).Start in
+pub loop-observer-init : goal.loop-observer-init
+loop-observer-init c =
+    let s₀ = (goal.at.loop-observer-init c).Start in
     let g : ℕ = c.walk.g in
     let looked : ℕ = c.walk.looked in (
-      omega arith,
       omega (arith, c.walk.invariant.2),
       subst (λ (X : List ℕ). first_hit (hit_of s₀ X) looked (map (pair_of g) (watching_of s₀) ++ rest_of s₀ g) ≡ walked_of s₀ X)
-          (sym (full (goal.at.loop-w-init c).Joined-g-ne0).base) (kept (goal.at.loop-w-init c).Then-k-limit),
+          (sym (full (goal.at.loop-observer-init c).Joined-g-ne0).base) (kept (goal.at.loop-observer-init c).Then-k-limit),
     )
 
-pub loop-w-preserved : goal.loop-w-preserved
-loop-w-preserved c =
-    let s₀ = (goal.at.loop-w-preserved c).Start in
+pub loop-observer-preserved : goal.loop-observer-preserved
+loop-observer-preserved c =
+    let s₀ = (goal.at.loop-observer-preserved c).Start in
     let a = s₀.args in
     let g : ℕ = c.walk.g in
-    let w : ℕ = c.loop-w.w in
+    let w : ℕ = c.loop-observer.observer-index in
     let f = hit_of s₀ (base a.clusters a.size a.cols c.if-g-ne0.levels) in
     let R : List Pair = rest_of s₀ g in
-    let looked : ℕ = c.loop-w.looked in
-    let h = c.loop-w-test.true in (
-      omega (arith, h),
-      omega (arith, c.loop-w.invariant.1),
-      sym (miss-first f g R looked (at (watching_of s₀) w) (drop (w + 1) (watching_of s₀)) (sym (tested (goal.at.loop-w-preserved c).After-leaks_to) ∙ c.if-leaks_to.false))
+    let looked : ℕ = c.loop-observer.looked in
+    let h = c.loop-observer-test.true in (
+      omega (arith, c.loop-observer.invariant.0),
+      sym (miss-first f g R looked (at (watching_of s₀) w) (drop (w + 1) (watching_of s₀)) (sym (tested (goal.at.loop-observer-preserved c).After-leaks_to) ∙ c.if-leaks_to.false))
           ∙ ap (λ (l : List ℕ). first_hit f looked (map (pair_of g) l ++ R)) (sym (observers-next (watching_of s₀) w h))
-          ∙ c.loop-w.invariant.2,
+          ∙ c.loop-observer.invariant.1,
     )
 
 pub walk-preserved : goal.walk-preserved
@@ -226,13 +224,13 @@ returns-then-leaks_to c =
     let s₀ = (goal.at.returns-then-leaks_to c).Start in
     let a = s₀.args in
     let g : ℕ = c.walk.g in
-    let w : ℕ = c.loop-w.w in
+    let w : ℕ = c.loop-observer.observer-index in
     let f = hit_of s₀ (base a.clusters a.size a.cols c.if-g-ne0.levels) in
     let R : List Pair = rest_of s₀ g in
-    let looked : ℕ = c.loop-w.looked in
+    let looked : ℕ = c.loop-observer.looked in
     sym (hit-first f g R looked (at (watching_of s₀) w) (drop (w + 1) (watching_of s₀)) (sym (tested (goal.at.returns-then-leaks_to c).After-leaks_to) ∙ c.if-leaks_to.true))
-    ∙ ap (λ (l : List ℕ). first_hit f looked (map (pair_of g) l ++ R)) (sym (observers-next (watching_of s₀) w c.loop-w-test.true))
-    ∙ c.loop-w.invariant.2
+    ∙ ap (λ (l : List ℕ). first_hit f looked (map (pair_of g) l ++ R)) (sym (observers-next (watching_of s₀) w c.loop-observer-test.true))
+    ∙ c.loop-observer.invariant.1
     ∙ ap (walked_of s₀) (full (goal.at.returns-then-leaks_to c).Joined-g-ne0).base
 
 pub returns-then-g-top : goal.returns-then-g-top

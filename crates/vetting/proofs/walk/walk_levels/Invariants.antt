@@ -3,7 +3,7 @@
 use mathlib.Core.Path.{◌≡◌}
 use mathlib.Core.List.{List, ◌++◌, map}
 use Prim.Native.Nat.{ℕ, ◌+◌, ◌-◌, ◌*◌, ◌^◌, ◌≤◌, ◌<◌}
-use lib.ListN.{length, take, drop}
+use lib.ListN.{take, drop}
 use Rattle.vetting.specs.declared.Pair.{Pair}
 use Rattle.plans.specs.Plans.{plan}
 use Rattle.vetting.specs.Walking.{hit, first_hit, walked}
@@ -22,16 +22,12 @@ rest clusters size limit watching g = pairs_from (clusters * size) limit watchin
 abbrev pub most_observers : ℕ
 most_observers = 9
 
-abbrev pub invariant-loop-w : goal.invariant-loop-w
-invariant-loop-w l =
+abbrev pub invariant-loop-observer : goal.invariant-loop-observer
+invariant-loop-observer l =
     let T : List ℕ = base l.clusters l.size l.cols l.levels in
-    (l.w ≤ length l.watching)
-    × (l.looked ≤ l.g * most_observers + l.w)
-    × (first_hit (hit (plan l.clusters l.size l.limit l.cols l.q) l.both T) l.looked (map (pair_of l.g) (drop l.w l.watching) ++ rest l.clusters l.size l.limit l.watching l.g)
+    (l.looked ≤ l.g * most_observers + l.observer-index)
+    × (first_hit (hit (plan l.clusters l.size l.limit l.cols l.q) l.both T) l.looked (map (pair_of l.g) (drop l.observer-index l.watching) ++ rest l.clusters l.size l.limit l.watching l.g)
     ≡ walked (plan l.clusters l.size l.limit l.cols l.q) l.both l.watching T)
-
-abbrev pub decreases-loop-w : goal.decreases-loop-w
-decreases-loop-w l = length l.watching - l.w
 
 abbrev pub invariant-walk : goal.invariant-walk
 invariant-walk l =

@@ -7,4 +7,4 @@ use Rattle.windows.proofs.Window.empty.Goals as goal
 pub returns : goal.returns
 returns c =
     let n = c.args.span in
-    ap (λ (l : List ℤ). record { span = n; held = 0; totals = l; sum = pos 0 }) c.no_totals-totals.ensures ∙ window-none n
+    ap (λ (l : List ℤ). record { span = n; held = 0; totals = l; sum = pos 0 }) c.no_totals.ensures ∙ window-none n

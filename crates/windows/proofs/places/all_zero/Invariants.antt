@@ -1,14 +1,9 @@
 -- The invariant: what was found so far and the places to come decide what all places decide.
 use mathlib.Core.Path.{◌≡◌}
 use mathlib.Core.Bool.{◌&&◌}
-use Prim.Native.Nat.{◌-◌}
 use lib.ListN.{drop}
 use Rattle.windows.specs.Runs.{all_zero}
-use Rattle.windows.specs.Windows.{max_span}
 use Rattle.windows.proofs.places.all_zero.Given as goal
 
 abbrev pub invariant-loop-k : goal.invariant-loop-k
 invariant-loop-k l = (l.zero && all_zero (drop l.k l.totals)) ≡ all_zero (drop l.held l.totals)
-
-abbrev pub decreases-loop-k : goal.decreases-loop-k
-decreases-loop-k l = max_span - l.k

@@ -1,4 +1,3 @@
--- The invariant: the totals passed have moved, and the others stand.
 use mathlib.Core.Path.{◌≡◌, ap, ap₂, ◌∙◌}
 use mathlib.Core.List.{List, [], ◌∷◌, ◌++◌}
 use Prim.Native.Nat.{ℕ, ◌+◌, ◌-◌}
@@ -16,15 +15,14 @@ pub loop-k-preserved : goal.loop-k-preserved
 loop-k-preserved c =
     let s = c.loop-k in
     let l = c.args.totals.now in
-    let taken = c.loop-k-test.true in
-    let x = get_or s.totals (s.k + 1) (pos 0) in
-    let is : to_z w32 (of_z w32 x) ≡ get_or l (s.k + 1) (pos 0)
-    = back w32 x c.next-1.given
-    ∙ ap (λ (r : List ℤ). get_or r (s.k + 1) (pos 0)) s.invariant.1
-    ∙ moved-reads l s.k (omega (arith, taken, c.requires.2, c.requires.0)) in (
-      omega (arith, taken),
-      ap₂ (λ (r : List ℤ) (t : ℤ). set r s.k t) s.invariant.1 is ∙ moved-next l s.k (omega (arith, taken, c.requires.2, c.requires.0)),
-    )
+    let t = get_or s.totals s.k (pos 0) in
+    let next : s.k - 1 + 1 ≡ s.k = omega arith in
+    let one : s.k ≡ s.k + 1 - 1 = omega arith in
+    let is : to_z w32 (of_z w32 t) ≡ get_or l s.k (pos 0)
+    = back w32 t (omega arith) ∙ ap (λ (r : List ℤ). get_or r s.k (pos 0)) s.invariant ∙ moved-reads l (s.k - 1) s.k next (omega arith) in
+    ap₂ (λ (r : List ℤ) (t : ℤ). set r (s.k - 1) t) s.invariant is
+    ∙ moved-next l (s.k - 1) s.k next (omega arith) (omega arith)
+    ∙ ap (λ (n : ℕ). moved_to n l) one
 
 -- the newest in the last place
 pub returns : goal.returns
@@ -33,9 +31,8 @@ returns c =
     let l = c.args.totals.now in
     let t = c.args.newest in
     let last = c.args.held - 1 in
-    let held : last + 1 ≡ c.args.held = omega (arith, c.requires.1) in
-    let at-end : s.k ≡ last = omega (arith, s.invariant.0, c.loop-k-test.false) in
-    ap₂ (λ (r : List ℤ) (z : ℤ). set r last z) (s.invariant.1 ∙ ap (λ (k : ℕ). moved_to k l) at-end) (to_z-of_z c.ranges.newest)
-    ∙ moved-set l last (omega (arith, c.requires.0, c.requires.2)) t
-    ∙ ap (λ (r : List ℤ). (r ++ (t ∷ [])) ++ drop (last + 1) l) (rest_of l last)
-    ∙ ap (λ (n : ℕ). (drop 1 (take n l) ++ (t ∷ [])) ++ drop n l) held
+    let held : last + 1 ≡ c.args.held = omega arith in
+    let at-end : s.k - 1 ≡ last = omega arith in
+    ap₂ (λ (r : List ℤ) (z : ℤ). set r last z) (s.invariant ∙ ap (λ (k : ℕ). moved_to k l) at-end) (to_z-of_z c.ranges.newest)
+    ∙ moved-set l last c.args.held held (omega arith) t
+    ∙ ap (λ (r : List ℤ). (r ++ (t ∷ [])) ++ drop c.args.held l) (rest_of l last ∙ ap (λ (n : ℕ). drop 1 (take n l)) held)

@@ -1,0 +1,5 @@
+use Rattle.rounds.proofs.ReportedLaws.{none-above}
+use Rattle.rounds.proofs.Round.bits_fit.Goals as goal
+
+pub returns : goal.returns
+returns c = none-above c.args.self.reported c.args.senders
