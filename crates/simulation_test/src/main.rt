@@ -44,6 +44,18 @@ fn mistake_of(case: usize) -> Mistake {
     MISTAKES[case % 5]
 }
 
+// The place of the number, from 1; 0 where nothing is mistaken. A refusal's number is so much too high.
+fn place_of(mistake: Option<Mistake>) -> usize {
+    match mistake {
+        None => 0,
+        Some(Mistake::Number) => 1,
+        Some(Mistake::Last) => 2,
+        Some(Mistake::First) => 3,
+        Some(Mistake::Sum) => 4,
+        Some(Mistake::Total) => 5,
+    }
+}
+
 fn one_higher(mut t: Told, mistake: Mistake) -> Told {
     match mistake {
         Mistake::Number => t.number = wrapping_add_usize(t.number, 1),
@@ -120,10 +132,7 @@ fn compared(bytes: &[u8], mistake: Option<Mistake>) -> usize {
             DIFFER
         },
         Err(refusal) => if wide16(refusal.number()) == number {
-            refused(
-                refusal,
-                wrapping_add_usize(number, over(mistake.is_some(), 1, 0)),
-            )
+            refused(refusal, wrapping_add_usize(number, place_of(mistake)))
         } else {
             DIFFER
         },
