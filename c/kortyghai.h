@@ -23,7 +23,7 @@
  * writes to what another has.
  *
  * WHAT IT NEEDS. memcpy, memmove and memset, and no other function or library; and stack: 2 KB for a user's calls, 6 KB for
- * a relay's and the server's, 31 KB for those that vet, 56 KB for those that deal keys or make tables (c/README.md has each
+ * a relay's and the server's, 30 KB for those that vet, 56 KB for those that deal keys or make tables (c/README.md has each
  * call). It is code for x86-64.
  *
  * SOURCE KEYS. Secrecy is proved for source keys whose symbols are drawn evenly from 0 to q - 1, each with equal chance and

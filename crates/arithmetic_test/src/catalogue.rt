@@ -68,11 +68,11 @@ pub fn refusal_agrees(c: Case) -> bool {
 
 pub fn result_agrees(c: Case) -> bool {
     let refused = refuse_unless(false, case_refusal(c));
-    packed(code_of_result(&refused)) == case_code(c)
+    packed(code_of_result(&refused)) == case_code(c) && step_agrees(c)
 }
 
 // Steps that were made and refused, with the case's first number as the state.
-pub fn step_agrees(c: Case) -> bool {
+fn step_agrees(c: Case) -> bool {
     let made = Step::made(c.a);
     let refused = Step::refused(case_refusal(c), c.a);
     packed(code_of_result(&made.answer)) == pack(0, 0, 0)

@@ -1,6 +1,6 @@
 // What is compared, and the loop over the inputs.
 use crate::cases::{Case, Group, case_of, next_seed};
-use crate::catalogue::{refusal_agrees, result_agrees, step_agrees};
+use crate::catalogue::{refusal_agrees, result_agrees};
 use crate::divisors::{Divisors, has_two};
 use crate::operations::{Operation, operation_agrees, refusal_number};
 use crate::slices::{Place, place_agrees};
@@ -13,7 +13,6 @@ pub enum Subject {
     AllBelow(Place),
     Codes,
     CodesOfResults,
-    Steps,
     Operation(Operation),
     // No function: counts the inputs of two numbers for which this number is to be refused, so that it shows that no kind is missing.
     Refused(u16),
@@ -25,7 +24,6 @@ fn agrees(divisors: &Divisors, subject: Subject, c: Case) -> bool {
         Subject::AllBelow(place) => place_agrees(place, c),
         Subject::Codes => refusal_agrees(c),
         Subject::CodesOfResults => result_agrees(c),
-        Subject::Steps => step_agrees(c),
         Subject::Operation(operation) => operation_agrees(divisors, operation, c),
         Subject::Refused(number) => refusal_number(divisors, c.q, c.a, c.b) == number,
     }

@@ -1,7 +1,7 @@
 -- Which save is found, and what decides once it is.
 use Prim.Native.Nat.{ℕ, ◌+◌, ◌≤◌}
-use mathlib.Core.Path.{◌≡◌, sym, ap, ◌∙◌, subst}
-use mathlib.Core.Bool.{Bool, true, false, not}
+use mathlib.Core.Path.{◌≡◌, refl, sym, ap, ◌∙◌, subst}
+use mathlib.Core.Bool.{Bool, true, false, cond, not}
 use mathlib.Core.List.{List, [], ◌∷◌, ◌++◌}
 use native.Mathlib.Omega.{arith}
 use lib.Dec.{eqb}
@@ -17,7 +17,7 @@ use Rattle.lists.specs.Lists.{at}
 use Rattle.plans.specs.Plans.{counts_fit, length_fits}
 use Rattle.rounds.specs.declared.RelayRound.{RelayRound}
 use Rattle.rounds.specs.Relays.{relay_known, relay_contents, relay_checks}
-use Rattle.checkpoints.specs.Checkpoints.{save_size, distance_at, bad_way, start_at, length_at, round_at, last_byte, round_read, restore_checks, restore_code}
+use Rattle.checkpoints.specs.Checkpoints.{save_size, distance_at, end_back, bad_way, start_at, length_at, round_at, last_byte, round_read, restore_checks, restore_code}
 use Rattle.checkpoints.proofs.Ways.{TrailerAt, way-good}
 
 -- the place that the search gives, where it gives one
@@ -31,6 +31,24 @@ pub found : (B : List ℕ) (steps r : ℕ) → bad_way B steps (length B) ≡ fa
 found B steps r w e =
     let (t, h) = way-good B steps (length B) w in
     record { way = w; place = e; trailer = subst (TrailerAt B) (sym e) t; within = omega arith }
+
+-- r is 0 where the way to the save is bad, else the place where it ends
+module _ (B : List ℕ) (steps r : ℕ) (e : r ≡ cond (bad_way B steps (length B)) 0 (end_back B steps (length B))) where
+  pub place_found : (r ≡ 0 → ⊥) → Found B steps r
+  place_found n = go (bad_way B steps (length B)) refl
+    where
+      go : (t : Bool) → bad_way B steps (length B) ≡ t → Found B steps r
+      go true w = absurd (n (e ∙ ap (λ (u : Bool). cond u 0 (end_back B steps (length B))) w))
+      go false w = found B steps r w (e ∙ ap (λ (u : Bool). cond u 0 (end_back B steps (length B))) w)
+
+  pub place-lost : r ≡ 0 → bad_way B steps (length B) ≡ true
+  place-lost z = go (bad_way B steps (length B)) refl
+    where
+      go : (t : Bool) → bad_way B steps (length B) ≡ t → bad_way B steps (length B) ≡ true
+      go true w = w
+      go false w =
+          let f = found B steps r w (e ∙ ap (λ (u : Bool). cond u 0 (end_back B steps (length B))) w) in
+          absurd (omega (arith, f.trailer.four))
 
 -- past 5, 1, 9 and 4 the state's own checks decide, whatever their order has before
 module _ (B : List ℕ) (steps : ℕ) where

@@ -13,6 +13,7 @@ ghost use Rattle.keys.specs.Maker.{rate_of, plan_of, entry, made_table, maker_ch
 
 use crate::verdict::verdict_on;
 use arithmetic::{Symbol, power_mod};
+use matrices::copy;
 use plans::{Plan, counts_fit};
 use primes::is_prime;
 use refusals::{Refusal, refuse_unless};
@@ -117,7 +118,7 @@ fn write_vetted(
 {
     fill_table(plan, generator, built);
     verdict_on(plan, built)?;
-    table.copy_from_slice(built);
+    copy(built, table);
     Ok(())
 }
 

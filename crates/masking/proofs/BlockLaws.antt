@@ -7,7 +7,7 @@ use native.Mathlib.Nat.{mod-lt}
 use lib.ListN.{length}
 use lib.Dec.{T, eqb, eqb→eq}
 use borrow.Author.Tests.{not-false, eq-eqb}
-use Rattle.refusals.specs.Codes.{accepted, first_of}
+use Rattle.refusals.specs.Codes.{accepted, first_of, if_accepted}
 use Rattle.refusals.proofs.CodeLaws.{none-holds, accepted-takes}
 use Rattle.residues.specs.Primes.{is_prime, all_below}
 use Rattle.residues.specs.Field.{sum_of, difference_of}
@@ -21,6 +21,7 @@ use Rattle.lists.proofs.ListLaws.{at-tab, tab-at}
 use Rattle.matrices.proofs.MadeVectors.{tab-vector}
 use Rattle.plans.specs.Plans.{length_fits}
 use Rattle.masking.specs.Blocks.{upload_of, unmasked_of, block_checks, block_code, unmask_after}
+use Rattle.refusals.proofs.Answers.{filled}
 
 -- ---- the checks
 
@@ -56,6 +57,10 @@ pub writable : (q L : ℕ) (a b out : List ℕ) → accepted ≡ first_of (block
 writable q L a b out e =
     let f = fitting q L a b out e in
     (f.positive, f.first ∙ sym f.room, f.second ∙ sym f.room, f.first_below, f.second_below)
+
+pub written : (q L : ℕ) (a b out : List ℕ) (block : ℕ → List ℕ) → accepted ≡ first_of (block_checks q L a b out) → block (length out) ≡ if_accepted
+    (block_code q L a b out) (block L) out
+written q L a b out block e = filled (block_code q L a b out) L block out (fitting q L a b out e).room e
 
 -- ---- there and back
 

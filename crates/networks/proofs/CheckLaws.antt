@@ -94,6 +94,21 @@ module _ (C : Network) where
       ∙ sym (ap (λ (b : Bool). cond b (record { number = 7; first = 0; second = suc j }) (first_of (leak_checks C k (suc j)))) (ap (leaks C) z ∙ e))
       ∙ h
 
+  pub walk-found : (k j : ℕ) (c : Code) → leaks C (j + 1) ≡ true → first_of (leak_checks C (suc k) j) ≡ c → record { number = 7; first = 0; second = j + 1 } ≡ c
+  walk-found k j c e h =
+      let z : suc j ≡ j + 1 = omega arith in
+      ap (λ (i : ℕ). record { number = 7; first = 0; second = i }) (sym z)
+      ∙ sym (ap (λ (b : Bool). cond b (record { number = 7; first = 0; second = suc j }) (first_of (leak_checks C k (suc j)))) (ap (leaks C) z ∙ e))
+      ∙ h
+
+-- ---- two tests
+
+pub both-no : (a b : Bool) → a ≡ false → false ≡ (a && b)
+both-no a b e = rw e
+
+pub both_yes : (a b c : Bool) → a ≡ true → c ≡ b → c ≡ (a && b)
+both_yes a b c e f = rw e f
+
 -- ---- an upload and a sum that nothing refuses
 
 pub record UploadReady (R : Ring) (A : List ℕ) (k j : ℕ) (w : List ℕ) : Type 0 where
@@ -149,6 +164,13 @@ pub record DecodeReady (R : Ring) (K A : List ℕ) (reported : ℕ) (Y out : Lis
   pub many : length Y ≡ R.size
   pub below : T (arrived_below R.q R.size reported Y)
   pub room : length out ≡ R.parts
+
+-- K sums, where the lengths are right
+pub sums-many : (R : Ring) (K A Y out : List ℕ) → T (lent_fits R K A Y out) → length Y ≡ R.size
+sums-many R K A Y out t =
+    let (t₁, _) = T_and (table_fits R K && weights_fit R A && eqb (length Y) R.size) (eqb (length out) R.parts) t in
+    let (_, y) = T_and (table_fits R K && weights_fit R A) (eqb (length Y) R.size) t₁ in
+    eqb→eq (length Y) R.size y
 
 pub arrivals-known : (R : Ring) (K A : List ℕ) (reported : ℕ) (Y out : List ℕ) → accepted ≡ first_of (arrival_checks R K A reported Y out)
     → DecodeReady R K A reported Y out

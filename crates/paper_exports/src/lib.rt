@@ -27,6 +27,9 @@ const NUMBER: usize = 2;
 
 const STATE: usize = 3;
 
+// The number of a run's first round, and the generator's state before it.
+const FIRST: u32 = 1;
+
 fn run_of(plan: [Symbol; PLAN_NUMBERS], table: [Symbol; READ_TABLE], numbers: [u32; NUMBERS]) -> Run
     ensures { result ≡ run_of plan table numbers }
 {
@@ -73,14 +76,12 @@ pub extern "C" fn kortyghai_paper_open(
     ensures table { table.new ≡ if_accepted (input_code bytes.now) (run_in bytes.now).table table.old }
     ensures run { run.new ≡ if_accepted (input_code bytes.now) (numbers_of (run_in bytes.now)) run.old }
 {
-    match simulation::open(bytes) {
-        Ok(first) => {
-            // Variables: the prover covers no array that is stored straight from a field or a call.
-            let counts = counts_of(first.plan);
-            let symbols = first.table;
-            let numbers = numbers_of(first);
+    match simulation::open_in(bytes, table) {
+        Ok(opened) => {
+            // Variables: the prover covers no array that is stored straight from a call.
+            let counts = counts_of(opened.plan);
+            let numbers = [opened.cap, opened.rounds, FIRST, FIRST];
             *plan = counts;
-            *table = symbols;
             *run = numbers;
             0
         }

@@ -13,10 +13,11 @@ mod writing;
 
 use numbers::DIFFER;
 use std::io;
-use testing::report;
+use std::num::wrapping_add_usize;
+use testing::{clip, print_counts};
 
-// What is answered to the first cases of a kind.
-fn count<F: Fn(usize) -> usize>(
+// Asks the first cases of a kind, and prints how often each number was answered, and how often the two differ.
+fn report<F: Fn(usize) -> usize>(
     rt: &impl Print,
     name: &str,
     cases: usize,
@@ -24,38 +25,44 @@ fn count<F: Fn(usize) -> usize>(
 ) -> io::Result<()>
     requires { F.IsAlwaysCallable outcome }
 {
-    report(rt, name, "answered", DIFFER, 0..cases, outcome)
+    let mut tally = [0usize; DIFFER + 1];
+    for case in 0..cases {
+        let n = clip(outcome(case), DIFFER);
+        tally[n] = wrapping_add_usize(tally[n], 1);
+    }
+    print!(rt; "{name}")?;
+    print_counts(rt, "answered", &tally)
 }
 
 fn main(rt: HostRuntime) -> io::Result<()> {
-    count(&rt, "Plan::new:    ", 1256, named::constructed)?;
-    count(&rt, "check_plan:   ", 12000, named::checked)?;
-    count(&rt, "write_record: ", 15520, writing::written)?;
-    count(
+    report(&rt, "Plan::new:    ", 1256, named::constructed)?;
+    report(&rt, "check_plan:   ", 12000, named::checked)?;
+    report(&rt, "write_record: ", 15520, writing::written)?;
+    report(
         &rt,
         "read damaged: ",
         34560,
         |case| reading::read(reading::damaged(case)),
     )?;
-    count(
+    report(
         &rt,
         "read cut:     ",
         6000,
         |case| reading::read(reading::cut(case)),
     )?;
-    count(
+    report(
         &rt,
         "read lent:    ",
         4096,
         |case| reading::read(reading::lent(case)),
     )?;
-    count(
+    report(
         &rt,
         "read marked:  ",
         4096,
         |case| reading::read(reading::marked(case)),
     )?;
-    count(&rt, "make_table:   ", making::CASES, making::made)?;
-    count(&rt, "derive_keys:  ", 6600, individual::derived)?;
-    count(&rt, "named cases:  ", named::CASES, named::tried)
+    report(&rt, "make_table:   ", making::CASES, making::made)?;
+    report(&rt, "derive_keys:  ", 6600, individual::derived)?;
+    report(&rt, "named cases:  ", named::CASES, named::tried)
 }

@@ -505,7 +505,9 @@ fn is_listed(q: u32) -> bool
     stands_in(&LISTED, q)
 }
 
-// An odd number that is not small.
+// An odd number that is not small. It is not put into its caller, which is then small enough to be put into those that ask for a prime, so that a small q is
+// told without a call.
+#[inline(never)]
 pub(crate) fn large_prime(q: u32) -> bool
     requires { (256 ≤ q) × (q % 2 ≡ 1) }
     ensures { result ≡ is_prime q }

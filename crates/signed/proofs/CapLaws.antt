@@ -10,11 +10,11 @@ use native.Mathlib.Decide.{ℕ_discrete, dec_lt}
 use native.Mathlib.Omega.{arith}
 use lib.Dec.{T, eqb, ltb, leb→le, le→leb, ltb→lt}
 use lib.IntN.{ℤ, pos, neg_ℤ, nat_abs}
-use lib.Signed.{◌≤ℤ◌}
+use lib.Signed.{le_z, le_z_yes, ◌≤ℤ◌}
 use lib.ListN.{length, drop, get_or, drop_of_length-le}
 use lib.Seq.{drop-cons}
 use borrow.Author.Tests.{not-true, eqb-false, eq-eqb, ne_eqb, lt-ltb, le-ltb}
-use Rattle.lists.proofs.Searches.{T_and, and_T, true→T, T→true}
+use Rattle.lists.proofs.Searches.{T_and, and_T, T-ext, true→T, T→true}
 use Rattle.integers.proofs.Parts.{one-part, abs-parts, neg-up, neg-dn, order-parts, parts-order}
 use Rattle.plans.specs.declared.Plan.{Plan}
 use Rattle.plans.specs.Plans.{users_of}
@@ -93,3 +93,10 @@ cap-means m w = (
   (λ h. le→leb (nat_abs w) m
       (omega (arith, abs-parts w, one-part w, neg-up (pos m), neg-dn (pos m), order-parts (neg_ℤ (pos m)) w h.0, order-parts w (pos m) h.1))),
 )
+
+-- the two tests that the code makes
+pub cap-test : (m : ℕ) (w : ℤ) → (le_z w (pos m) && le_z (neg_ℤ (pos m)) w) ≡ is_in_cap m w
+cap-test m w =
+    T-ext (le_z w (pos m) && le_z (neg_ℤ (pos m)) w) (is_in_cap m w)
+    (λ t. let (high, low) = T_and (le_z w (pos m)) (le_z (neg_ℤ (pos m)) w) t in (cap-means m w).1 (le_z_yes low, le_z_yes high))
+    (λ t. let (low, high) = (cap-means m w).0 t in and_T (le_z w (pos m)) (le_z (neg_ℤ (pos m)) w) high.le low.le)

@@ -1,14 +1,18 @@
 -- The checks of the signed calls: those that all of them make first decide, or those of the call itself do; and what holds where they accept.
 use Prim.Native.Nat.{ℕ, ◌*◌, ◌<◌}
-use mathlib.Core.Path.{◌≡◌}
+use mathlib.Core.Path.{◌≡◌, sym, ap, ◌∙◌}
+use mathlib.Core.Logic.{◌≢◌}
 use mathlib.Core.Bool.{Bool, true, false, not, ◌&&◌}
 use mathlib.Core.List.{List, [], ◌∷◌, ◌++◌}
 use lib.ListN.{length}
 use lib.Dec.{T, eqb, eqb→eq}
 use lib.IntN.{ℤ}
-use borrow.Author.Tests.{not-false}
+use borrow.Author.Tests.{not-false, eq-eqb, ne_eqb}
+use Rattle.std.specs.Prelude.{Result}
 use Rattle.refusals.specs.declared.Code.{Code}
-use Rattle.refusals.specs.Codes.{code, accepted}
+use Rattle.refusals.specs.declared.Refusal.{Refusal}
+use Rattle.refusals.specs.Codes.{code, accepted, code_of_result, is_accepted, first_of}
+use Rattle.refusals.proofs.Answers.{first-answers, second-answers}
 use Rattle.refusals.proofs.CodeLaws.{none-holds}
 use Rattle.lists.proofs.Searches.{T_and, true→T}
 use Rattle.residues.specs.Primes.{is_prime, all_below}
@@ -17,13 +21,34 @@ use Rattle.plans.specs.declared.Plan.{Plan}
 use Rattle.plans.specs.Plans.{in_bounds, length_fits, plan_checks, plan_code}
 use Rattle.plans.proofs.PlanBounds.{bounds-known, some-users}
 use Rattle.signed.specs.Caps.{cap_fits, all_in_cap}
-use Rattle.signed.specs.SignedBlocks.{cap_checks, signed_upload_checks, signed_upload_code, signed_unmask_checks, signed_unmask_code}
+use Rattle.signed.specs.SignedBlocks.{cap_checks, signed_upload_checks, signed_upload_code, signed_unmask_checks, signed_unmask_code, totals_checks, totals_code}
 use Rattle.signed.proofs.CapLaws.{cap-known, one-room}
 
 -- ---- two parts
 
 abbrev pub shape_checks : Plan → ℕ → ℕ → Bool → List (Bool × Code)
 shape_checks P m L sized = cap_checks P m L ++ (not sized, code 4) ∷ []
+
+-- v is the answer to the first part, where `told` was handed over for whether the blocks have the length, and r says whether v accepts
+module _ (P : Plan) (m L : ℕ) {sized : Bool} (own : List (Bool × Code)) (v : Result (Unit {0}) Refusal) {told r : Bool}
+    (is : code_of_result v ≡ first_of (shape_checks P m L told)) (means : told ≡ sized) (asked : r ≡ is_accepted (code_of_result v))
+  where
+    meant : code_of_result v ≡ first_of (shape_checks P m L sized)
+    meant = is ∙ ap (λ (t : Bool). first_of (shape_checks P m L t)) means
+
+    pub shape-refuses : not r ≡ true → code_of_result v ≡ first_of (shape_checks P m L sized ++ own)
+    shape-refuses = first-answers (shape_checks P m L sized) own v meant asked
+
+    pub shape-passes : not r ≡ false → {d : Code} → d ≡ first_of own → d ≡ first_of (shape_checks P m L sized ++ own)
+    shape-passes e h = h ∙ second-answers (shape_checks P m L sized) own v meant asked tt e
+
+-- what `a == length && ..` tells, by its first test
+module _ (a L : ℕ) (b : Bool) {r : Bool} where
+  pub and_same : a ≡ L → r ≡ b → r ≡ (eqb a L && b)
+  and_same e h = rw (eq-eqb a L e) h
+
+  pub and-other : a ≢ L → r ≡ eqb a L → r ≡ (eqb a L && b)
+  and-other n h = rw (ne_eqb a L n) (h ∙ ne_eqb a L n)
 
 -- ---- what holds where the checks accept
 
@@ -107,3 +132,19 @@ unmaskable P m L upload key out e =
     let (low, high) = T_and (all_below P.q upload) (all_below P.q key)
     (told (all_below P.q upload && all_below P.q key) w.1.1.1.1.1.0) in
     record { shaped = shape P m L w.0 w.1.0 w.1.1.0 w.1.1.1.0; size = a; key-size = b; room = o; below = low; key_below = high }
+
+-- totals
+pub record Showable (P : Plan) (m L : ℕ) (totals : List ℕ) (out : List ℤ) : Type 0 where
+  pub shaped : Shape P m L
+  pub size : length totals ≡ length out
+  pub below : T (all_below P.q totals)
+
+pub showable : (P : Plan) (m L : ℕ) (totals : List ℕ) (out : List ℤ) → accepted ≡ totals_code P m L totals out → Showable P m L totals out
+showable P m L totals out e =
+    let w = none-holds (totals_checks P m L totals out) tt e in
+    let (a, o) = T_and (eqb (length totals) L) (eqb (length out) L) (told (eqb (length totals) L && eqb (length out) L) w.1.1.1.1.0) in
+    record {
+      shaped = shape P m L w.0 w.1.0 w.1.1.0 w.1.1.1.0;
+      size = eqb→eq (length totals) L a ∙ sym (eqb→eq (length out) L o);
+      below = told (all_below P.q totals) w.1.1.1.1.1.0;
+    }

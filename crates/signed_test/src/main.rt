@@ -15,34 +15,40 @@ use model::DIFFER;
 use runs::round;
 use small::{KEYED, SINGLES};
 use std::io;
-use testing::report;
+use std::num::wrapping_add_usize;
+use std::ops::Range;
+use testing::{clip, print_counts};
 
 // How many inputs of each call are drawn, and how many rounds.
 const DRAWN: usize = 9000;
 
 const ROUNDS: usize = 300;
 
+// Asks each case, and prints how often each number was answered, and how often the two differ.
+fn report<F: Fn(usize) -> usize>(
+    rt: &impl Print,
+    name: &str,
+    cases: Range<usize>,
+    outcome: F,
+) -> io::Result<()>
+    requires { F.IsAlwaysCallable outcome }
+{
+    let mut tally = [0usize; DIFFER + 1];
+    for case in cases {
+        let n = clip(outcome(case), DIFFER);
+        tally[n] = wrapping_add_usize(tally[n], 1);
+    }
+    print!(rt; "{name}")?;
+    print_counts(rt, "answered", &tally)
+}
+
 // A call's small inputs, and its drawn ones.
 fn report_small(rt: &impl Print, name: &str, call: Call, cases: usize) -> io::Result<()> {
-    report(
-        rt,
-        name,
-        "answered",
-        DIFFER,
-        0..cases,
-        |case| small::answer(call, case),
-    )
+    report(rt, name, 0..cases, |case| small::answer(call, case))
 }
 
 fn report_drawn(rt: &impl Print, name: &str, call: Call) -> io::Result<()> {
-    report(
-        rt,
-        name,
-        "answered",
-        DIFFER,
-        0..DRAWN,
-        |case| drawn::answer(call, case),
-    )
+    report(rt, name, 0..DRAWN, |case| drawn::answer(call, case))
 }
 
 fn main(rt: HostRuntime) -> io::Result<()> {
@@ -57,12 +63,5 @@ fn main(rt: HostRuntime) -> io::Result<()> {
     report_drawn(&rt, "uploads, drawn:              ", Call::Upload)?;
     report_drawn(&rt, "keys taken off, drawn:       ", Call::Unmask)?;
     report_drawn(&rt, "totals shown, drawn:         ", Call::ShowTotals)?;
-    report(
-        &rt,
-        "whole rounds:                ",
-        "answered",
-        DIFFER,
-        0..ROUNDS,
-        round,
-    )
+    report(&rt, "whole rounds:                ", 0..ROUNDS, round)
 }

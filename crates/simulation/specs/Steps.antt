@@ -8,6 +8,7 @@ use Rattle.plans.specs.Plans.{users_of, no_plan}
 use Rattle.records.specs.Records.{padded}
 use Rattle.texts.specs.declared.Line.{Line}
 use Rattle.texts.specs.Texts.{decimal, line_with}
+use Rattle.simulation.specs.declared.Opened.{Opened}
 use Rattle.simulation.specs.declared.Run.{Run}
 use Rattle.trials.specs.Trials.{state_after, trial_checks}
 use Rattle.simulation.specs.Runs.{cap_in, rounds_in, plan_in, table_in, input_code, trial_line}
@@ -23,6 +24,10 @@ no_run = run no_plan (zeros 256) 0 0 0 0
 abbrev pub run_in : List ℕ → Run
 run_in B =
     if_accepted (input_code B) (run (plan_in B) (padded (table_in B)) (cap_in B) (rounds_in B) 1 1) no_run
+
+-- what a run has beside its table before its first round
+abbrev pub opened_of : Run → Opened
+opened_of R = record { plan = R.plan; cap = R.cap; rounds = R.rounds }
 
 module _ (R : Run) where
   abbrev pub table_of : List ℕ

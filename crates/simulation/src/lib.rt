@@ -5,10 +5,18 @@ mod input;
 mod lines;
 
 use arithmetic::Symbol;
-pub use input::open;
+pub use input::{open, open_in};
 pub use lines::{next_line, refused_line};
 use plans::Plan;
 use records::READ_TABLE;
+
+// What a run has before its first round, but for its key table.
+#[derive(Clone, Copy, Debug, PartialEq, Eq)]
+pub struct Opened {
+    pub plan: Plan,
+    pub cap: u32,
+    pub rounds: u32,
+}
 
 // A run of rounds: a plan and its key table with 0 past it, a cap, how many rounds there are, the next one's number and the generator's state before it.
 #[derive(Clone, Copy)]

@@ -9,7 +9,7 @@ use native.Mathlib.Decide.{ℕ_discrete, dec_lt}
 use borrow.Author.Tests.{le-leb, lt-ltb, le-ltb, ltb-true, ltb-false, eq-eqb, eqb-true, not-false}
 use lib.Dec.{T, leb, ltb, eqb, leb→le, eqb→eq}
 use lib.ListN.{length, get_or-eq_default}
-use Rattle.refusals.specs.Codes.{accepted, is_accepted}
+use Rattle.refusals.specs.Codes.{accepted, first_of, is_accepted}
 use Rattle.refusals.proofs.CodeLaws.{none-holds}
 use Rattle.refusals.proofs.Orders.{number-accepts}
 use Rattle.lists.specs.Lists.{at}
@@ -23,7 +23,7 @@ use Rattle.streams.specs.Streams.{draw_code}
 use Rattle.stocks.specs.declared.Stock.{Stock}
 use Rattle.stocks.specs.Stocks.{max_pools, reserve_of, limit_of, drawn_of, owed_to, held_by, position, owed_to_others, entry_fits, held_fits, fits}
 use Rattle.stocks.specs.Stocks.{open_checks, open_code, opened, Draw, with_drawn, stock_checks, stock_code}
-use Rattle.stocks.specs.Machine.{Sound}
+use Rattle.stocks.specs.Machine.{state_checks, Sound}
 use Rattle.stocks.proofs.Pools.{others, mine, another, sum-apart, sum-differs}
 
 -- ---- a good stock: what the checks of a stock, 1 and 21, ask
@@ -80,6 +80,12 @@ good-fits size S g =
     entry i h (yes l) = made i h (or_left (ltb i S.pools) (eqb (limit_of S i) 0) (true→T (ltb i S.pools) (lt-ltb i S.pools l)))
     entry i h (no l) =
         made i h (or_right (ltb i S.pools) (eqb (limit_of S i) 0) (true→T (eqb (limit_of S i) 0) (eq-eqb (limit_of S i) 0 (g.past i h (omega (arith, l))))))
+
+pub sound : (size : ℕ) (S : Stock) → accepted ≡ first_of (state_checks size S) → Sound size S
+sound size S e =
+    let w = none-holds (state_checks size S) tt e in
+    let (some, few) = one_known max_pools S.pools (not-false (one_of max_pools S.pools) w.0) in
+    record { some = some; few = few; fit = not-false (fits size S) w.1.0 }
 
 pub good-sound : {size : ℕ} {S : Stock} → Sound size S → Good size S
 good-sound {size} {S} s = good size S s.some s.few s.fit

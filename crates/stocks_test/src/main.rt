@@ -11,7 +11,9 @@ mod log;
 use calls::DIFFER;
 use cases::SMALL;
 use std::io;
-use testing::report;
+use std::num::wrapping_add_usize;
+use std::ops::Range;
+use testing::{clip, print_counts};
 
 // How many cases are drawn of openings, of stocks and of runs; the last are runs with a mistake in what is expected, which shows where a draw is answered.
 const OPENINGS: usize = 20000;
@@ -22,45 +24,37 @@ const RUNS: usize = 4000;
 
 const MISTAKEN: usize = 200;
 
+// Asks each case, and prints how often each number was answered, and how often the two differ.
+fn report<F: Fn(usize) -> usize>(
+    rt: &impl Print,
+    name: &str,
+    cases: Range<usize>,
+    outcome: F,
+) -> io::Result<()>
+    requires { F.IsAlwaysCallable outcome }
+{
+    let mut tally = [0usize; DIFFER + 1];
+    for case in cases {
+        let n = clip(outcome(case), DIFFER);
+        tally[n] = wrapping_add_usize(tally[n], 1);
+    }
+    print!(rt; "{name}")?;
+    print_counts(rt, "answered", &tally)
+}
+
 fn single_stocks(rt: &impl Print) -> io::Result<()> {
-    report(
-        rt,
-        "openings:      ",
-        "answered",
-        DIFFER,
-        0..OPENINGS,
-        cases::drawn_opening,
-    )?;
-    report(
-        rt,
-        "small stocks:  ",
-        "answered",
-        DIFFER,
-        0..SMALL,
-        cases::small_stock,
-    )?;
-    report(
-        rt,
-        "drawn stocks:  ",
-        "answered",
-        DIFFER,
-        0..STOCKS,
-        cases::drawn_stock,
-    )
+    report(rt, "openings:      ", 0..OPENINGS, cases::drawn_opening)?;
+    report(rt, "small stocks:  ", 0..SMALL, cases::small_stock)?;
+    report(rt, "drawn stocks:  ", 0..STOCKS, cases::drawn_stock)
 }
 
 fn runs_of_draws(rt: &impl Print) -> io::Result<()> {
-    report(rt, "runs of draws: ", "answered", DIFFER, 0..RUNS, |case| {
+    report(rt, "runs of draws: ", 0..RUNS, |case| {
         cases::run(case, 0)
     })?;
-    report(
-        rt,
-        "mistaken runs: ",
-        "answered",
-        DIFFER,
-        0..MISTAKEN,
-        |case| { cases::run(case, 1) },
-    )
+    report(rt, "mistaken runs: ", 0..MISTAKEN, |case| {
+        cases::run(case, 1)
+    })
 }
 
 fn main(rt: HostRuntime) -> io::Result<()> {

@@ -6,8 +6,8 @@ use mathlib.Core.List.{List, [], ◌∷◌, ◌++◌}
 use native.Mathlib.Omega.{arith}
 use lib.ListN.{length, take, drop, length-drop}
 use lib.Seq.{take-add, drop-drop, length-take-le}
-use lib.Dec.{T, eqb, eqb→eq}
-use borrow.Author.Tests.{ltb-false, not-false}
+use lib.Dec.{T, ltb, eqb, eqb→eq}
+use borrow.Author.Tests.{lt-ltb, ltb-false, not-false}
 use Rattle.refusals.specs.Codes.{accepted}
 use Rattle.refusals.proofs.CodeLaws.{none-holds}
 use Rattle.refusals.proofs.Orders.{number-accepts}
@@ -20,6 +20,10 @@ use Rattle.plans.proofs.PlanBounds.{length-known}
 use Rattle.streams.specs.Streams.{draw_checks, draw_code, drawn, position_after_all, symbols_drawn, places_drawn}
 
 -- ---- the checks
+
+-- a position past the end leaves no symbols, and a draw asks for at least one
+pub past_the_end : (stream : List ℕ) (position L : ℕ) → length_fits L ≡ true → length stream < position → ltb (length stream - position) L ≡ true
+past_the_end stream position L e h = lt-ltb (length stream - position) L (omega (arith, (length-known L e).0))
 
 -- what holds where they accept
 pub record Drawable (stream : List ℕ) (position L : ℕ) (out : List ℕ) : Type 0 where

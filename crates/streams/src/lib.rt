@@ -20,7 +20,10 @@ fn copy_from(stream: &[Symbol], at: usize, out: &mut [Symbol])
     requires { at + length out.old ≤ length stream.now }
     ensures { out.new ≡ drawn stream.now at (length out.old) }
 {
-    out.copy_from_slice(&stream[at..at + out.len()]);
+    // A block is short: a call that copies memory takes longer than to copy one symbol.
+    for i in 0..out.len() {
+        out[i] = stream[at + i];
+    }
 }
 
 // A position past the end leaves no symbols, so it is refused as too few are.

@@ -6,7 +6,7 @@ mod counts;
 mod numbers;
 mod slices;
 
-pub use counts::{print_counts, report};
+pub use counts::print_counts;
 pub use numbers::{
     PRIMES, clip, draw, drawn, is_outside, is_prime, mul_add, narrow, narrow16, over, power, prime,
     product, product_mod, quotient, residue, seed, state, step, wide, wide16,

@@ -18,7 +18,7 @@ use Rattle.refusals.proofs.CodeLaws.{refusal-refuses, accepted-takes}
 use Rattle.lists.specs.Lists.{at, All, tab}
 use Rattle.lists.specs.Sums.{sum_to}
 use Rattle.lists.proofs.Fronts.{length_part, part_at}
-use Rattle.lists.proofs.ListLaws.{at-tab}
+use Rattle.lists.proofs.ListLaws.{at-tab, length-tab}
 use Rattle.lists.proofs.Searches.{T→true, true→T, T-or, or_left, or_right}
 use Rattle.lists.proofs.Sums.{sum-cong}
 use Rattle.residues.specs.Primes.{is_prime, all_below}
@@ -152,7 +152,7 @@ relay-opens P cluster uploads order low high s =
 -- after all have sent, the relay gives out the sum of its cluster's uploads
 pub relay-sum-is : (P : Plan) (cluster number : ℕ) (uploads order out : List ℕ) → 1 ≤ cluster → cluster ≤ P.clusters → Sent P uploads order → length out ≡ 1
     → (let R = run_from P cluster number uploads (relay_opened P.clusters P.size P.q 1 cluster number) order in
-    (at (relay_sums R out) 0 ≡ sum_to P.size (λ v. at uploads ((cluster - 1) * P.size + v)) % P.q) × (accepted ≡ relay_give_code R out))
+    (at (relay_sums R out) 0 ≡ sum_to P.size (λ v. at uploads ((cluster - 1) * P.size + v)) % P.q) × (accepted ≡ relay_give_code R out) × (length (relay_sums R out) ≡ 1))
 relay-sum-is P cluster number uploads order out low high s room =
     let b : Bounds P = bounds-known P s.bounds in
     let pos : 0 < P.q = prime-pos (true-prime P.q s.prime) in
@@ -176,6 +176,7 @@ relay-sum-is P cluster number uploads order out low high s room =
           (sum-cong P.size (λ v. at (B (suc v)) 0) (λ v. at uploads ((cluster - 1) * P.size + v))
           (λ v h. part_at 1 ((cluster - 1) * P.size + (suc v - 1)) uploads 0 (omega arith) ∙ ap (at uploads) (omega arith))),
       sym (ap (λ (X : RelayRound). relay_give_code X out) run ∙ told),
+      ap length sums ∙ length-tab 1 f,
     )
 
 -- ---- the server
@@ -221,7 +222,7 @@ server-opens P sums s = opens P true s.bounds s.prime refl
 -- after all relays have sent, the server gives out the sum of their sums
 pub total-is : (P : Plan) (number : ℕ) (sums out : List ℕ) → Relayed P sums → length out ≡ 1
     → (let R = server_run (server_round (open_round P.clusters P.size P.q 1 true number)) (relay_frames number sums) in
-    (at (server_sums R out) 0 ≡ sum_to P.clusters (at sums) % P.q) × (accepted ≡ server_give_code R out))
+    (at (server_sums R out) 0 ≡ sum_to P.clusters (at sums) % P.q) × (accepted ≡ server_give_code R out) × (length (server_sums R out) ≡ 1))
 total-is P number sums out s room =
     let pos : 0 < P.q = prime-pos (true-prime P.q s.prime) in
     let pass = server-opens P sums s in
@@ -247,4 +248,5 @@ total-is P number sums out s room =
           (λ v h. part_at 1 (suc v - 1) sums 0 (omega arith) ∙ ap (at sums) (omega arith))),
       sym
           (ap (λ (X : ServerRound). server_give_code X out) run ∙ ap (λ (n : ℕ). give_code n true (run_of P.clusters true D F) out) clusters-same ∙ told),
+      ap length sums-are ∙ length-tab 1 f,
     )

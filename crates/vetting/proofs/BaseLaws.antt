@@ -1,12 +1,15 @@
 -- The table of level 0: sums modulo q one number at a time, rows one symbol at a time, and the key table with the sums below it.
 use mathlib.Core.Path.{◌≡◌, refl, sym, ap, ◌∙◌}
+use mathlib.Core.Bool.{Bool, cond}
 use mathlib.Core.List.{List, [], ◌++◌, append_assoc}
 use Prim.Native.Nat.{ℕ, ◌+◌, ◌*◌, ◌%◌, ◌≤◌, ◌<◌}
 use native.Mathlib.Nat.{mul-le-mul}
 use native.Mathlib.Numerals.{add-one}
 use native.Mathlib.Omega.{arith}
+use lib.Dec.{eqb}
 use lib.ListN.{length, take, drop, length-append, length-drop}
 use lib.Seq.{length-take-le, take_at}
+use borrow.Author.Tests.{eq-eqb}
 use borrow.Rule.Slice.PartMut.{same_len_mid}
 use Rattle.lists.specs.Lists.{join_to, at}
 use Rattle.lists.specs.Sums.{sum_to}
@@ -52,12 +55,17 @@ base-room P w = omega (arith, few-numbers (users_of P + P.clusters) P.rate (omeg
 -- ---- a table put in front, and a list put after it
 
 module _ (n s m k : ℕ) (L K new : List ℕ) (em : m ≡ n) (ek : k ≡ s) (size : length K ≡ n) (h : n + s ≤ length L)
-    (copied : new ≡ K) where
+    (copied : new ≡ cond (eqb (length K) (length (take m (drop 0 L)))) K (take m (drop 0 L))) where
   abbrev after : List ℕ
-  after = new ++ drop m L
+  after = take 0 L ++ (new ++ drop m (drop 0 L))
 
-  pub copy-length : length after ≡ length L
-  copy-length = length-append new (drop m L) ∙ omega (arith, ap length copied, length-drop m L)
+  new_is : new ≡ K
+  new_is =
+      let l : length (take m L) ≡ m = length-take-le m L (omega arith) in
+      copied ∙ ap (λ (t : Bool). cond t K (take m L)) (eq-eqb (length K) (length (take m L)) (omega arith))
+
+  pub copy-length : length (take 0 L ++ (new ++ drop m (drop 0 L))) ≡ length L
+  copy-length = length-append new (drop m L) ∙ omega (arith, ap length new_is, length-drop m L)
 
   pub both-length : (y : List ℕ) → length y ≡ s → length (take n after ++ (y ++ drop k (drop n after))) ≡ length L
   both-length y e =
@@ -67,7 +75,7 @@ module _ (n s m k : ℕ) (L K new : List ℕ) (em : m ≡ n) (ek : k ≡ s) (siz
   pub both-front : (y : List ℕ) (t : ℕ) → length y ≡ s → t ≡ n + s → take t (take n after ++ (y ++ drop k (drop n after))) ≡ K ++ y
   both-front y t e et =
       let R : List ℕ = drop k (drop n after) in
-      let f : take n after ≡ K = take_at new (drop m L) n (ap length copied ∙ size) ∙ copied in
+      let f : take n after ≡ K = take_at new (drop m L) n (ap length new_is ∙ size) ∙ new_is in
       ap (λ (x : List ℕ). take t (x ++ (y ++ R))) f
       ∙ ap (take t) (sym (append_assoc K y R))
       ∙ take_at (K ++ y) R t (length-append K y ∙ omega arith)

@@ -61,10 +61,15 @@ fn grow(
     }
     let rows = clusters * size + clusters;
     let j = i - 1;
-    let h = g + (1u16 << j as u32);
-    descend(q, rows, cols, k + 1, j, levels)
-        && grow(q, clusters, size, limit, cols, j, k + 1, h, levels)
-        && grow(q, clusters, size, limit, cols, j, k, g, levels)
+    if descend(q, rows, cols, k + 1, j, levels) {
+        let h = g + (1u16 << j as u32);
+        if grow(q, clusters, size, limit, cols, j, k + 1, h, levels) {
+            return grow(q, clusters, size, limit, cols, j, k, g, levels);
+        }
+        return false;
+    }
+    // A line of its own, since the wrong body rows_not_asked attacks it.
+    false
 }
 
 // Whether they all pass, from nobody on.

@@ -9,7 +9,7 @@ ghost use Rattle.vetting.specs.Walking.{cluster_sum, base_table, level_at, desce
 
 use crate::{Pair, Walked};
 use arithmetic::Symbol;
-use matrices::{eliminate, reduce_rows};
+use matrices::{copy, eliminate, reduce_rows};
 use plans::Plan;
 
 // The rows of the largest table: the users', and the clusters' below them.
@@ -121,7 +121,7 @@ fn copy_row(cols: usize, i: usize, n: usize, table: &[Symbol], out: &mut [Symbol
 {
     let a = i * cols;
     let b = n * cols;
-    out[b..b + cols].copy_from_slice(&table[a..a + cols]);
+    copy(&table[a..a + cols], &mut out[b..b + cols]);
 }
 
 // Puts the rows that `watch` names and `skip` doesn't one after the other; how many they are.
@@ -293,7 +293,7 @@ pub(crate) fn set_base(plan: Plan, table: &[Symbol], levels: &mut [Symbol])
 {
     let n = plan.clusters * plan.size * plan.rate;
     let e = n + plan.clusters * plan.rate;
-    levels[..n].copy_from_slice(table);
+    copy(table, &mut levels[0..n]);
     sum_rows(
         plan.q,
         plan.clusters,

@@ -6,6 +6,7 @@ use mathlib.Core.List.{List, [], ◌∷◌, ◌++◌}
 use native.Mathlib.Nat.{not-suc-le-zero}
 use native.Mathlib.Numerals.{add-one}
 use native.Mathlib.Omega.{arith}
+use native.Mathlib.Decide.{ℕ_discrete}
 use lib.Dec.{T, eqb}
 use lib.IntN.{ℤ, pos, negsuc, neg_ℤ, ◌+ℤ◌, ◌-ℤ◌, nat_abs, +ℤ_assoc, +ℤ_idl, +ℤ_idr}
 use lib.ListN.{length, take, drop, set, get_or, replicate, drop_of_length-le, length-drop, length-append}
@@ -109,10 +110,25 @@ pub same_refl : (a : ℤ) → same a a ≡ true
 same_refl (pos a) = eq-eqb a a refl
 same_refl (negsuc a) = eq-eqb a a refl
 
+-- equal bits, equal numbers
+pub same_bits : (a b : ℤ) → mag a < 2 ^ 63 → mag b < 2 ^ 63 → eqb (of_z w64 a) (of_z w64 b) ≡ same a b
+same_bits (pos a) (pos b) h l = refl
+same_bits (pos a) (negsuc b) h l = ne_eqb a (2 ^ 64 - suc b) (λ e. omega arith)
+same_bits (negsuc a) (pos b) h l = ne_eqb (2 ^ 64 - suc a) b (λ e. omega arith)
+same_bits (negsuc a) (negsuc b) h l = go (ℕ_discrete a b)
+  where
+    go : Dec (a ≡ b) → eqb (2 ^ 64 - suc a) (2 ^ 64 - suc b) ≡ eqb a b
+    go (yes e) = rw (eq-eqb a b e) (eq-eqb (2 ^ 64 - suc a) (2 ^ 64 - suc b) (omega arith))
+    go (no n) = rw (ne_eqb a b n) (ne_eqb (2 ^ 64 - suc a) (2 ^ 64 - suc b) (λ e. n (omega arith)))
+
 -- the bits of a total tell whether it is 0
 pub bits-zero : (t : ℤ) → mag t < 2 ^ 31 → eqb (of_z w32 t) 0 ≡ same t (pos 0)
 bits-zero (pos n) h = refl
 bits-zero (negsuc n) h = ne_eqb (2 ^ 32 - suc n) 0 (λ e. omega arith)
+
+pub bits-not-zero : (t : ℤ) → (of_z w32 t ≡ 0 → ⊥) → same t (pos 0) ≡ false
+bits-not-zero (pos n) f = ne_eqb n 0 f
+bits-not-zero (negsuc n) f = refl
 
 pub zero-step : (l : List ℤ) (k : ℕ) → k < length l → all_zero (drop k l) ≡ (same (get_or l k (pos 0)) (pos 0) && all_zero (drop (k + 1) l))
 unfolding all_zero
@@ -147,6 +163,11 @@ largest-newest : (a : ℤ) (run : List ℤ) (t : ℤ) → largest_from a (run ++
 unfolding largest_from
 largest-newest a [] t = refl
 largest-newest a (x ∷ run) t = largest-newest (larger a x) run t
+
+pub largest-first : (l : List ℤ) → 0 < length l → largest_of (take 1 l) ≡ get_or l 0 (pos 0)
+unfolding largest_from
+largest-first [] h = absurd (not-suc-le-zero h)
+largest-first (t ∷ l) h = refl
 
 pub largest-next : (a : ℤ) (run : List ℤ) (k : ℕ) → k < length run
     → largest_from a (take (k + 1) run) ≡ larger (largest_from a (take k run)) (get_or run k (pos 0))

@@ -15,8 +15,9 @@ use mir.Syntax.{w64}
 use mir.Val.{to_z, of_z}
 use Rattle.lists.proofs.Searches.{T_and, T→true, true→T}
 use Rattle.refusals.specs.declared.Code.{Code}
+use Rattle.refusals.specs.declared.Refusal.TheVariants.{NotFull, BadWindow}
 use Rattle.refusals.specs.Codes.{code, accepted, first_of, if_accepted}
-use Rattle.refusals.proofs.CodeLaws.{accepted-takes}
+use Rattle.refusals.proofs.CodeLaws.{accepted-takes, refused-keeps}
 use Rattle.integers.proofs.Bits.{back}
 use Rattle.windows.specs.declared.Window.{Window}
 use Rattle.windows.specs.Runs.{sum_of, last_of, same, all_zero}
@@ -182,9 +183,20 @@ answers-0 passed none e z = ap₂ answer_of (sym e) (sym z)
 pub answers-12 : (passed none : Bool) → passed ≡ true → none ≡ true → code 12 ≡ answer_of passed none
 answers-12 passed none e z = ap₂ answer_of (sym e) (sym z)
 
--- what a call that is not refused hands back
+answers-17 : (passed none : Bool) → passed ≡ false → code 17 ≡ answer_of passed none
+answers-17 passed none e = ap (λ (b : Bool). answer_of b none) (sym e)
+
+-- what a call that is not refused hands back; what it answers is answers-0
 pub gives-new : (passed none : Bool) {A : Type 0} (new old : A) → passed ≡ true → none ≡ false → new ≡ if_accepted (answer_of passed none) new old
 gives-new passed none new old e z = sym (accepted-takes (answer_of passed none) new old (answers-0 passed none e z))
+
+-- and with its answer what one that is refused hands back
+module _ (passed none : Bool) {A : Type 0} (new old : A) where
+  pub keeps-12 : passed ≡ true → none ≡ true → (code 12 ≡ answer_of passed none) × (old ≡ if_accepted (answer_of passed none) new old)
+  keeps-12 e z = let is = answers-12 passed none e z in (is, sym (refused-keeps (answer_of passed none) new old NotFull is))
+
+  pub keeps-17 : passed ≡ false → (code 17 ≡ answer_of passed none) × (old ≡ if_accepted (answer_of passed none) new old)
+  keeps-17 e = let is = answers-17 passed none e in (is, sym (refused-keeps (answer_of passed none) new old BadWindow is))
 
 -- and the other way
 pub accepted-iff : (passed : Bool) → (accepted ≡ answer_of passed false) ↔ (passed ≡ true)

@@ -99,8 +99,8 @@ impl Window {
     }
 
     // Whether some run of totals leaves it: 17.
-    fn check_left(self) -> Result<(), Refusal>
-        ensures { code_of_result result ≡ window_code self }
+    fn check_left(&self) -> Result<(), Refusal>
+        ensures { code_of_result result ≡ window_code self.now }
     {
         refuse_unless(
             is_left(self.span, self.held, self.sum, &self.totals),

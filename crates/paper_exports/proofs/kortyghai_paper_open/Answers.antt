@@ -14,10 +14,12 @@ use Rattle.records.specs.Records.{read_checks, read_code, padded}
 use Rattle.records.proofs.RecordChecks.{readable}
 use Rattle.vetting.specs.Vet.{vet_checks}
 use Rattle.signed.specs.Caps.{cap_fits}
+use Rattle.simulation.specs.declared.Opened.{Opened}
 use Rattle.simulation.specs.declared.Run.{Run}
 use Rattle.simulation.specs.Runs.{cap_in, rounds_in, record_in, plan_in, table_in, input_code}
 use Rattle.simulation.specs.Steps.{run, no_run, run_in}
 use Rattle.boundary.proofs.SmallPlans.{Small, small}
+use Rattle.paper_exports.specs.States.{numbers_of}
 use Rattle.paper_exports.proofs.kortyghai_paper_open.Goals as goal
 
 -- an input that is accepted has a record that can be read, and so a plan of small numbers
@@ -49,4 +51,13 @@ plan-small B ok =
 
 pub counts_of-counts-requires : goal.counts_of-counts-requires
 counts_of-counts-requires c =
-    subst Small (sym (ap (λ (R : Run). R.plan) c.in-Ok.ensures.run)) (plan-small c.args.bytes.now c.in-Ok.ensures.code)
+    subst Small (sym (ap (λ (O : Opened). O.plan) c.in-Ok.ensures.opened)) (plan-small c.args.bytes.now c.in-Ok.ensures.code)
+
+pub returns-in-Ok-clause-run : goal.returns-in-Ok-clause-run
+returns-in-Ok-clause-run c =
+    let B : List ℕ = c.args.bytes.now in
+    let ok : accepted ≡ input_code B = c.in-Ok.ensures.code in
+    ap (λ (O : Opened). O.cap ∷ O.rounds ∷ 1 ∷ 1 ∷ []) c.in-Ok.ensures.opened
+    ∙ ap (λ (R : Run). R.cap ∷ R.rounds ∷ 1 ∷ 1 ∷ []) (run_is B ok)
+    ∙ sym (ap numbers_of (run_is B ok))
+    ∙ sym (accepted-takes (input_code B) (numbers_of (run_in B)) c.args.run.now ok)

@@ -1,4 +1,4 @@
-use Rattle.std.proofs.Common.{◌≡◌, map, ap, ◌∙◌}
+use Rattle.std.proofs.Common.{◌≡◌, ℕ, Bool, cond, eqb, List, map, length, sym, ap, ◌∙◌, eq-eqb}
 use Rattle.std.proofs.lemmas.Result.{err_from_is_err_and}
 use Rattle.refusals.specs.Codes.{first_of}
 use Rattle.residues.proofs.PrimeLaws.{true-prime}
@@ -9,6 +9,10 @@ use Rattle.plans.proofs.PlanBounds.{bounds-known}
 use Rattle.keys.proofs.MakerLaws.{made-verdict}
 use Rattle.keys.proofs.maker.write_vetted.Goals as goal
 use Rattle.keys.proofs.maker.write_vetted.Goals.{After-fill_table}
+
+-- as many symbols are copied as there is room for
+copied-whole : (from to after : List ℕ) → after ≡ cond (eqb (length from) (length to)) from to → length from ≡ length to → after ≡ from
+copied-whole from to after e h = e ∙ ap (λ (t : Bool). cond t from to) (eq-eqb (length from) (length to) h)
 
 -- what the vet finds of the table that was built is what the walk finds of the plan's
 found : (c : After-fill_table) → (let P = c.args.plan in
@@ -27,5 +31,7 @@ returns-in_err-verdict_on-clause-code c =
 pub returns : goal.returns
 returns c = record {
   code = c.in_ok-verdict_on.ensures ∙ found (goal.at.returns c).After-fill_table;
-  table = c.copy_from_slice.ensures.after ∙ c.fill_table.ensures;
+  table =
+      copied-whole c.fill_table.new.table c.args.table.now _ c.copy.ensures (c.fill_table.auto.table ∙ c.requires.3 ∙ sym c.requires.4)
+      ∙ c.fill_table.ensures;
 }

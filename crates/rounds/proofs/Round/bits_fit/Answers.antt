@@ -2,4 +2,4 @@ use Rattle.rounds.proofs.ReportedLaws.{none-above}
 use Rattle.rounds.proofs.Round.bits_fit.Goals as goal
 
 pub returns : goal.returns
-returns c = none-above c.args.self.reported c.args.senders
+returns c = none-above c.args.self.now.reported c.args.senders

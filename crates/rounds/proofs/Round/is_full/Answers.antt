@@ -5,4 +5,4 @@ use Rattle.rounds.proofs.Round.is_full.Goals as goal
 
 pub returns : goal.returns
 returns c =
-    full-mask c.args.self.reported c.args.senders c.requires.0 c.requires.1 ∙ heard-bits c.args.senders c.args.self
+    full-mask c.args.self.now.reported c.args.senders c.requires.0 c.requires.1 ∙ heard-bits c.args.senders c.args.self.now

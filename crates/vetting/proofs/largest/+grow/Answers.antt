@@ -1,19 +1,15 @@
 -- The levels of a call up to its own stay, so the second call finds its table where the first found it.
-use mathlib.Core.Path.{◌≡◌, refl, sym, ap, ◌∙◌, subst}
-use mathlib.Core.Bool.{Bool}
+use mathlib.Core.Path.{◌≡◌, refl, ◌∙◌}
 use mathlib.Core.List.{List}
 use Prim.Native.Nat.{ℕ, ◌+◌, ◌-◌, ◌*◌, ◌^◌, ◌≤◌, ◌<◌}
 use native.Mathlib.Omega.{arith}
-use lib.Dec.{T}
-use lib.ListN.{length, take}
+use lib.ListN.{length}
 use lib.Pow.{pow_pos}
 use Rattle.plans.specs.Plans.{plan}
-use Rattle.vetting.specs.Walking.{level_at, levels_size, through}
-use Rattle.vetting.specs.Growing.{grown}
+use Rattle.vetting.specs.Walking.{level_at, levels_size}
 use Rattle.vetting.proofs.GrowLaws.{grown-full, grown-few, Step, bit_is, room-half}
 use Rattle.vetting.proofs.GrowLaws.{ends-at-row, stays-once, ends-inside, stays_twice, ends-after}
 use Rattle.vetting.proofs.largest.+grow.Goals as goal
-use Rattle.vetting.proofs.largest.+grow.Goals.{then-descend, else-descend}
 
 -- a call that asks for one more user
 step : (q clusters size limit cols i k g : ℕ) (L : List ℕ)
@@ -76,7 +72,7 @@ grow-requires-then-grow t c =
     let s = step a.q a.clusters a.size a.limit a.cols a.i a.k a.g a.levels.now c.requires c.if-left-eq0.false c.if-i-left.false in (
       omega (arith, s.some),
       (
-        c.if-descend.auto.levels ∙ c.descend.auto.levels ∙ s.len,
+        c.grow.auto.levels ∙ c.descend.auto.levels ∙ s.len,
         s.few,
         c.requires.2,
         s.users,
@@ -91,38 +87,31 @@ pub returns-then-grow : goal.returns-then-grow
 returns-then-grow t c =
     let a = c.args in
     let s = step a.q a.clusters a.size a.limit a.cols a.i a.k a.g a.levels.now c.requires c.if-left-eq0.false c.if-i-left.false in
-    let n : ℕ = (a.clusters * a.size + a.clusters) * a.cols in
     let d = c.descend in
+    let e = c.grow in
     let f = c.grow-then-grow in
-    elim c.if-descend.branch [
-      | then-descend w ↦
-          let e = w.grow in
-          let len : length e.new.levels ≡ levels_size = e.auto.levels ∙ d.auto.levels ∙ s.len in (
-            ends-after s d.result d.ensures.0 d.new.levels d.ensures.1 e.result e.ensures.0 e.new.levels len e.ensures.1
-                w.if-descend.true (sym w.value-is ∙ c.if-grow.true) f.result
-                (f.ensures.0 ∙ ap (λ (X : List ℕ). grown (plan a.clusters a.size a.limit a.cols a.q) (a.i - 1) a.k a.g (level_at n X a.k)) w.levels-is),
-            f.ensures.1 ∙ ap (take (through a.k)) w.levels-is
-                ∙ stays_twice s d.result d.ensures.0 d.new.levels d.ensures.1 e.result e.ensures.0 e.new.levels len e.ensures.1,
-          )
-      | else-descend w ↦ absurd (subst (λ (b : Bool). T b) (sym c.if-grow.true ∙ w.value-is ∙ w.if-descend.false) tt)
-    ]
+    let len : length e.new.levels ≡ levels_size = e.auto.levels ∙ d.auto.levels ∙ s.len in (
+      ends-after s d.result d.ensures.0 d.new.levels d.ensures.1 e.result e.ensures.0 e.new.levels len e.ensures.1 c.if-descend.true c.if-grow.true
+          f.result f.ensures.0,
+      f.ensures.1 ∙ stays_twice s d.result d.ensures.0 d.new.levels d.ensures.1 e.result e.ensures.0 e.new.levels len e.ensures.1,
+    )
 
-pub returns-else-grow : goal.returns-else-grow
-returns-else-grow t c =
+pub returns-then-descend : goal.returns-then-descend
+returns-then-descend t c =
     let a = c.args in
     let s = step a.q a.clusters a.size a.limit a.cols a.i a.k a.g a.levels.now c.requires c.if-left-eq0.false c.if-i-left.false in
     let d = c.descend in
-    elim c.if-descend.branch [
-      | then-descend w ↦
-          let e = w.grow in (
-            c.if-grow.false
-                ∙ ends-inside s d.result d.ensures.0 d.new.levels d.ensures.1 e.result e.ensures.0 w.if-descend.true (sym w.value-is ∙ c.if-grow.false),
-            ap (take (through a.k)) w.levels-is
-                ∙ stays_twice s d.result d.ensures.0 d.new.levels d.ensures.1 e.result e.ensures.0 e.new.levels
-                (e.auto.levels ∙ d.auto.levels ∙ s.len) e.ensures.1,
-          )
-      | else-descend w ↦ (
-        c.if-grow.false ∙ ends-at-row s d.result d.ensures.0 w.if-descend.false,
-        ap (take (through a.k)) w.levels-is ∙ stays-once s d.result d.ensures.0 d.new.levels d.ensures.1,
-      )
-    ]
+    let e = c.grow in (
+      ends-inside s d.result d.ensures.0 d.new.levels d.ensures.1 e.result e.ensures.0 c.if-descend.true c.if-grow.false,
+      stays_twice s d.result d.ensures.0 d.new.levels d.ensures.1 e.result e.ensures.0 e.new.levels
+          (e.auto.levels ∙ d.auto.levels ∙ s.len) e.ensures.1,
+    )
+
+pub returns : goal.returns
+returns t c =
+    let a = c.args in
+    let s = step a.q a.clusters a.size a.limit a.cols a.i a.k a.g a.levels.now c.requires c.if-left-eq0.false c.if-i-left.false in
+    let d = c.descend in (
+      ends-at-row s d.result d.ensures.0 c.if-descend.false,
+      stays-once s d.result d.ensures.0 d.new.levels d.ensures.1,
+    )

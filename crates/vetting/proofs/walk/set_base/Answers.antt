@@ -1,8 +1,8 @@
-use mathlib.Core.Path.{◌≡◌, refl, sym, ap, ◌∙◌, subst}
+use mathlib.Core.Path.{◌≡◌, sym, ap, ◌∙◌, subst}
 use mathlib.Core.List.{List, ◌++◌}
 use Prim.Native.Nat.{ℕ, ◌+◌, ◌-◌, ◌*◌, ◌≤◌}
 use lib.Dec.{lit≤}
-use native.Mathlib.Nat.{add-mul, le_trans, add-sub_cancel_left}
+use native.Mathlib.Nat.{add-mul, le_trans, sub-zero, add-sub_cancel_left}
 use lib.ListN.{length}
 use Rattle.lists.specs.Lists.{tab, join_to}
 use Rattle.lists.proofs.ListLaws.{length-tab}
@@ -33,9 +33,9 @@ returns c =
     let told : y ≡ join_to P.clusters (λ u. tab P.rate (cluster_sum P.q P.size P.rate K u)) = c.sum_rows.ensures in
     let l : length y ≡ m = ap length told ∙ length-join P.rate (λ u. tab P.rate (cluster_sum P.q P.size P.rate K u))
     (λ u. length-tab P.rate (cluster_sum P.q P.size P.rate K u)) P.clusters in (
-      both-length n m n (n + m - n) s.args.levels.now K _ refl (add-sub_cancel_left _ _) s.requires.1 (room s)
-          c.copy_from_slice.ensures.after y l ∙ s.requires.3,
-      both-front n m n (n + m - n) s.args.levels.now K _ refl (add-sub_cancel_left _ _) s.requires.1 (room s)
-          c.copy_from_slice.ensures.after y ((users_of P + P.clusters) * P.rate) l (add-mul _ _ _)
+      both-length n m (n - 0) (n + m - n) s.args.levels.now K _ (sub-zero _) (add-sub_cancel_left _ _) s.requires.1 (room s)
+          c.copy.ensures y l ∙ s.requires.3,
+      both-front n m (n - 0) (n + m - n) s.args.levels.now K _ (sub-zero _) (add-sub_cancel_left _ _) s.requires.1 (room s)
+          c.copy.ensures y ((users_of P + P.clusters) * P.rate) l (add-mul _ _ _)
           ∙ ap (λ (x : List ℕ). K ++ x) told,
     )
